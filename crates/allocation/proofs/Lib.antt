@@ -1,0 +1,2 @@
+-- Laws of an allocation's definitions.
+pub mod Permuted

@@ -1,0 +1,10 @@
+-- Laws of the book's definitions, for this crate's functions and for the crates above.
+pub mod AllOf
+pub mod RowsOf
+pub mod RowsFormed
+pub mod WellFormed
+pub mod Answers
+pub mod Rising
+pub mod PlaceOf
+pub mod Written
+pub mod WithRegistration

@@ -1,0 +1,36 @@
+-- `take_formed` is the test of the Take and its flag. Where the flag is clear, the code compares bits with 0 and the definition the size. Assumes nothing.
+use Prim.Native.Nat.{ℕ, suc, _-_, _^_}
+use mathlib.Core.Path.{_≡_, refl, sym, _∙_, ap}
+use native.Mathlib.Omega.{arith}
+use borrow.Author.Needs.{needs}
+use borrow.Author.Tests.{ne-eqb}
+use lib.Dec.{eqb}
+use lib.IntN.{ℤ, pos, negsuc, natAbs}
+use mir.Syntax.{w64}
+use mir.Val.{SFits, ofZ}
+use mir.ValLaws.{toZ-ofZ}
+use Rattle.book.specs.Settings.{isTake, takeFormed}
+use Rattle.book.proofs.formed.take_formed.Statement.{statement}
+use Rattle.book.proofs.formed.take_formed.Tie as tie
+
+zero-bits : (z : ℤ) → SFits w64 z → eqb (ofZ w64 z) 0 ≡ eqb (natAbs z) 0
+zero-bits (pos n) h = refl
+zero-bits (negsuc n) h =
+    let f = h .sfits in
+    ne-eqb (2 ^ 64 - suc n) 0 (omega arith) ∙ sym (ne-eqb (suc n) 0 (omega arith))
+
+is-take-requires : tie.Need-is-take-requires
+is-take-requires c κs = search needs
+
+returns : tie.Need-returns
+unfolding takeFormed
+returns c =
+    let wh = c .before .before .args .wh in
+    rw (c .before .if1 .taken) (c .is-take .ensures ∙ ap isTake (toZ-ofZ w64 wh (c .before .before .fits .wh)))
+
+returns-2 : tie.Need-returns-2
+unfolding takeFormed
+returns-2 c = rw (c .if1 .left) (zero-bits (c .before .args .wh) (c .before .fits .wh))
+
+pub take-formed-spec : {M : Type 1} → statement M
+take-formed-spec = tie.close (tie.spec is-take-requires returns returns-2)

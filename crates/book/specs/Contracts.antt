@@ -1,0 +1,43 @@
+-- How the contracts of the functions speak: a call's outcome against what a function returns and leaves.
+use Prim.Native.Nat.{ℕ, suc}
+use mathlib.Core.Path.{_≡_}
+use mathlib.Core.Bool.{Bool, not, _||_, cond}
+use mathlib.Core.List.{List, [], _∷_}
+use lib.Dec.{leb, ltb, eqb}
+use Rattle.book.specs.declared.Settings.{Settings}
+use Rattle.book.specs.declared.Answer.{Answer}
+use Rattle.book.specs.declared.Place.{Place}
+use Rattle.book.specs.Rows.{Row, isKnown}
+use Rattle.book.specs.Book.{Book}
+use Rattle.book.specs.Causes.{refuse, accepted, bookIllFormed, argumentOutOfRange}
+use Rattle.book.specs.Calls.{Outcome}
+
+-- the settings and rows that a call is lent, as a book
+abbrev pub lent : Settings → List ℕ → Book
+lent s words = record { settings = s; rows = words }
+
+-- the answer and the rows afterwards are those of an outcome
+pub record Gives (o : Outcome) (answer : Answer) (rowsAfter : List ℕ) : Type 0 where
+  pub number : answer .number ≡ o .number
+  pub settings : answer .settings ≡ o .book .settings
+  pub rows : rowsAfter ≡ o .book .rows
+
+-- causes 1 and 2, of whether the book is well formed and whether the arguments are in range
+abbrev pub bookAndRange : Bool → Bool → ℕ
+bookAndRange formed inRange = refuse (not formed) bookIllFormed (refuse (not inRange) argumentOutOfRange accepted)
+
+-- the row of these words
+abbrev pub row : ℕ → ℕ → ℕ → Row
+row m registration reading = record { mpan = m; registration = registration; reading = reading }
+
+-- a number is at most `most`, or is the one other number allowed
+abbrev pub within : ℕ → ℕ → ℕ → Bool
+within most other x = leb x most || eqb x other
+
+-- where a meter's row stands, or is to stand: after the rows at the front whose MPANs are below its own
+unfoldable pub placeOf : ℕ → List Row → ℕ
+placeOf m [] = 0
+placeOf m (r ∷ rows) = cond (ltb (r .mpan) m) (suc (placeOf m rows)) 0
+
+abbrev pub placeIn : ℕ → List Row → Place
+placeIn m rows = record { index = placeOf m rows; known = isKnown m rows }

@@ -1,0 +1,124 @@
+// The calls that write the book. Each tests the book it is lent first, then its arguments, and gives the lowest number that applies.
+use crate::Answer;
+use crate::Settings;
+use crate::formed::is_formed;
+use crate::formed::is_shape;
+use crate::formed::is_take;
+use crate::formed::is_tolerance;
+use crate::formed::is_weight;
+use words::Reading;
+use words::Registration;
+ghost use mathlib.Core.Path.{_≡_};
+ghost use Rattle.book.specs.Calls.{shape, weight, tolerance, groupTake, settingInRange, registerInRange, readingCallInRange, settingCall};
+ghost use Rattle.book.specs.Book.{wellFormed};
+ghost use Rattle.book.specs.Contracts.{lent, bookAndRange, Gives};
+
+pub const ACCEPTED: u64 = 0;
+
+pub const BOOK_ILL_FORMED: u64 = 1;
+
+pub const ARGUMENT_OUT_OF_RANGE: u64 = 2;
+
+// Whether the arguments of a call are in their ranges, as numbers of the full width.
+
+pub fn shape_in_range(category: u64, wh: u64) -> bool
+    ensures { λ r. ⌜ r ≡ settingInRange (shape category wh) ⌝ }
+{
+    (category < Settings::CATEGORIES) & is_shape(wh)
+}
+
+pub fn weight_in_range(class: u64, thousandths: u64) -> bool
+    ensures { λ r. ⌜ r ≡ settingInRange (weight class thousandths) ⌝ }
+{
+    (class < Settings::CLASSES) & is_weight(thousandths)
+}
+
+pub fn register_in_range(mpan: u64, registration: Registration) -> bool
+    ensures { λ r. ⌜ r ≡ registerInRange mpan registration ⌝ }
+{
+    words::is_mpan(mpan) & registration.in_range()
+}
+
+pub fn reading_in_range(mpan: u64, reading: Reading) -> bool
+    ensures { λ r. ⌜ r ≡ readingCallInRange mpan reading ⌝ }
+{
+    words::is_mpan(mpan) & reading.in_range()
+}
+
+// The cause of a call that sets a setting, of the book that it is lent and of whether its arguments are in range.
+fn setting_cause(settings: Settings, rows: &[u64], in_range: bool) -> u64
+    ensures { λ r. ⌜ r ≡ bookAndRange (wellFormed (lent settings (now (rows .entry)))) «in_range» ⌝ }
+{
+    if !is_formed(settings, rows) {
+        return BOOK_ILL_FORMED;
+    }
+    if !in_range {
+        return ARGUMENT_OUT_OF_RANGE;
+    }
+    ACCEPTED
+}
+
+// Replaces a load shape; SHAPE_MISSING sets it back to missing.
+pub fn set_shape(settings: Settings, rows: &[u64], category: u64, wh: u64) -> Answer
+    ensures { λ r. ⌜ Gives (settingCall (lent settings (now (rows .entry))) (shape category wh)) r (now (rows .entry)) ⌝ }
+{
+    let number = setting_cause(settings, rows, shape_in_range(category, wh));
+    if number != ACCEPTED {
+        return Answer { number, settings };
+    }
+    let mut made = settings;
+    made.shapes[category as usize] = wh as u32;
+    Answer {
+        number: ACCEPTED,
+        settings: made,
+    }
+}
+
+// Replaces the weight of a class.
+pub fn set_weight(settings: Settings, rows: &[u64], class: u64, thousandths: u64) -> Answer
+    ensures { λ r. ⌜ Gives (settingCall (lent settings (now (rows .entry))) (weight class thousandths)) r (now (rows .entry)) ⌝ }
+{
+    let number = setting_cause(settings, rows, weight_in_range(class, thousandths));
+    if number != ACCEPTED {
+        return Answer { number, settings };
+    }
+    let mut made = settings;
+    made.weights[class as usize] = thousandths as u32;
+    Answer {
+        number: ACCEPTED,
+        settings: made,
+    }
+}
+
+// Replaces the tolerance.
+pub fn set_tolerance(settings: Settings, rows: &[u64], g: u64) -> Answer
+    ensures { λ r. ⌜ Gives (settingCall (lent settings (now (rows .entry))) (tolerance g)) r (now (rows .entry)) ⌝ }
+{
+    let number = setting_cause(settings, rows, is_tolerance(g));
+    if number != ACCEPTED {
+        return Answer { number, settings };
+    }
+    let mut made = settings;
+    made.tolerance = g as u32;
+    Answer {
+        number: ACCEPTED,
+        settings: made,
+    }
+}
+
+// Sets the Group Take.
+pub fn set_take(settings: Settings, rows: &[u64], wh: i64) -> Answer
+    ensures { λ r. ⌜ Gives (settingCall (lent settings (now (rows .entry))) (groupTake wh)) r (now (rows .entry)) ⌝ }
+{
+    let number = setting_cause(settings, rows, is_take(wh));
+    if number != ACCEPTED {
+        return Answer { number, settings };
+    }
+    let mut made = settings;
+    made.take_wh = wh;
+    made.take_set = true;
+    Answer {
+        number: ACCEPTED,
+        settings: made,
+    }
+}

@@ -1,0 +1,119 @@
+// The test that a book is well formed.
+use crate::Settings;
+ghost use mathlib.Core.Path.{_≡_};
+ghost use mathlib.Core.Bool.{_&&_};
+ghost use Prim.Native.Nat.{_*_, _≤_};
+ghost use lib.Dec.{ltb};
+ghost use lib.ListN.{length};
+ghost use Rattle.book.specs.Settings.{isWeight, isShape, isTolerance, isTake, takeFormed, allOf, settingsFormed};
+ghost use Rattle.book.specs.Rows.{isRow, rowsOf, rowsFormed};
+ghost use Rattle.book.specs.Book.{wellFormed};
+ghost use Rattle.book.specs.Contracts.{lent, row, within};
+
+fn wide(x: u32) -> u64
+    ensures { λ r. ⌜ r ≡ x ⌝ }
+{
+    x as u64
+}
+
+// Whether a number is in the range of a weight, a shape, the tolerance or the Take.
+
+pub fn is_weight(thousandths: u64) -> bool
+    ensures { λ r. ⌜ r ≡ isWeight thousandths ⌝ }
+{
+    thousandths <= Settings::WEIGHT_MAX
+}
+
+pub fn is_shape(wh: u64) -> bool
+    ensures { λ r. ⌜ r ≡ isShape wh ⌝ }
+{
+    (wh <= Settings::SHAPE_MAX) | (wh == Settings::SHAPE_MISSING)
+}
+
+pub fn is_tolerance(g: u64) -> bool
+    ensures { λ r. ⌜ r ≡ isTolerance g ⌝ }
+{
+    g <= Settings::TOLERANCE_MAX
+}
+
+pub fn is_take(wh: i64) -> bool
+    ensures { λ r. ⌜ r ≡ isTake wh ⌝ }
+{
+    (Settings::TAKE_MIN <= wh) & (wh <= Settings::TAKE_MAX)
+}
+
+fn take_formed(set: bool, wh: i64) -> bool
+    ensures { λ r. ⌜ r ≡ takeFormed set wh ⌝ }
+{
+    if set { is_take(wh) } else { wh == 0 }
+}
+
+// Whether every number of a list is at most `most` or is `other`.
+fn all_within(xs: &[u32], most: u64, other: u64) -> bool
+    ensures { λ r. ⌜ r ≡ allOf (within most other) (now (xs .entry)) ⌝ }
+{
+    let mut i = 0;
+    while i < xs.len() {
+        let x = wide(xs[i]);
+        if !((x <= most) | (x == other)) {
+            return false;
+        }
+        i += 1;
+    }
+    true
+}
+
+// Whether each setting is one that accepted calls could have written.
+pub fn settings_formed(s: Settings) -> bool
+    ensures { λ r. ⌜ r ≡ settingsFormed s ⌝ }
+{
+    let weights = s.weights;
+    let shapes = s.shapes;
+    all_within(&weights, Settings::WEIGHT_MAX, 0)
+        & all_within(&shapes, Settings::SHAPE_MAX, Settings::SHAPE_MISSING)
+        & is_tolerance(wide(s.tolerance))
+        & take_formed(s.take_set, s.take_wh)
+}
+
+// Whether a row is well formed, with an MPAN above the one before it.
+fn row_formed(before: u64, mpan: u64, registration: u64, reading: u64) -> bool
+    ensures { λ r. ⌜ r ≡ (isRow (row mpan registration reading) && ltb before mpan) ⌝ }
+{
+    words::is_mpan(mpan)
+        & words::is_registration(registration)
+        & words::is_reading(reading)
+        & (before < mpan)
+}
+
+// Whether the first n rows are well formed and rise strictly.
+pub fn rows_formed(rows: &[u64], n: usize) -> bool
+    requires { ⌜ 3 * n ≤ length (now rows) ⌝ }
+    ensures { λ r. ⌜ r ≡ rowsFormed 0 (rowsOf n (now (rows .entry))) ⌝ }
+{
+    let mut before = 0;
+    let mut i = 0;
+    while i < n {
+        let at = 3 * i;
+        let mpan = rows[at];
+        if !row_formed(before, mpan, rows[at + 1], rows[at + 2]) {
+            return false;
+        }
+        before = mpan;
+        i += 1;
+    }
+    true
+}
+
+// Whether the book that a call is lent is well formed.
+pub fn is_formed(settings: Settings, rows: &[u64]) -> bool
+    ensures { λ r. ⌜ r ≡ wellFormed (lent settings (now (rows .entry))) ⌝ }
+{
+    let meters = settings.meters;
+    if crate::rows::row_capacity(rows) < meters {
+        return false;
+    }
+    if !settings_formed(settings) {
+        return false;
+    }
+    rows_formed(rows, meters)
+}

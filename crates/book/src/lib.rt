@@ -1,0 +1,63 @@
+// The book of one GSP Group and one Settlement Period: its settings, its rows, and the calls that write them.
+ghost use mathlib.Core.Path.{_≡_};
+ghost use Rattle.book.specs.Settings.{freshSettings};
+
+pub mod calls;
+pub mod formed;
+pub mod rows;
+
+// The settings, passed in and returned.
+pub struct Settings {
+    pub meters: usize,
+    pub weights: [u32; 24],
+    pub shapes: [u32; 64],
+    pub tolerance: u32,
+    pub take_wh: i64,
+    pub take_set: bool,
+}
+
+// What a call that writes the book answers: 0 or the number of its refusal, and the settings.
+pub struct Answer {
+    pub number: u64,
+    pub settings: Settings,
+}
+
+// Where a meter's row stands or is to stand, counted in rows, and whether it is there.
+pub struct Place {
+    pub index: usize,
+    pub known: bool,
+}
+
+impl Settings {
+    pub const METERS_MAX: usize = 65_536;
+
+    pub const CLASSES: u64 = 24;
+
+    pub const WEIGHT_MAX: u64 = 1_000;
+
+    pub const CATEGORIES: u64 = 64;
+
+    pub const SHAPE_MAX: u64 = 10_000_000;
+
+    pub const SHAPE_MISSING: u64 = 4_294_967_295;
+
+    pub const TOLERANCE_MAX: u64 = 1_000;
+
+    pub const TAKE_MIN: i64 = -5_000_000_000;
+
+    pub const TAKE_MAX: i64 = 5_000_000_000;
+
+    // The settings of a fresh book.
+    pub fn fresh() -> Settings
+        ensures { λ r. ⌜ r ≡ freshSettings ⌝ }
+    {
+        Settings {
+            meters: 0,
+            weights: [0; 24],
+            shapes: [4_294_967_295; 64],
+            tolerance: 1_000,
+            take_wh: 0,
+            take_set: false,
+        }
+    }
+}

@@ -1,0 +1,32 @@
+-- Rounding to the nearest Wh: by size under the sign, and never more than half a Wh away.
+use Prim.Native.Nat.{zero, suc, _*_, _≤_}
+use mathlib.Core.Path.{_≡_, refl, sym}
+use native.Mathlib.Omega.{arith}
+use lib.IntN.{ℤ, pos, negsuc, natAbs, negℤ, _-ℤ_, _*ℤ_, negℤ-negℤ}
+use Rattle.integers.specs.Rounding.{nearest, nearestWh}
+use Rattle.integers.proofs.Linear.{opposite, minus, times, size, one-side}
+use Rattle.integers.proofs.Size.{size-neg}
+
+pub nearest-neg : (x : ℤ) → nearestWh (negℤ x) ≡ negℤ (nearestWh x)
+unfolding nearestWh
+nearest-neg (pos zero) = refl
+nearest-neg (pos (suc n)) = refl
+nearest-neg (negsuc n) = sym (negℤ-negℤ _)
+
+pub nearest-size : (x : ℤ) → natAbs (nearestWh x) ≡ nearest (natAbs x)
+unfolding nearestWh
+nearest-size (pos n) = refl
+nearest-size (negsuc n) = size-neg (pos (nearest (suc n)))
+
+pub nearest-within : (x : ℤ) → natAbs (nearestWh x) ≤ natAbs x
+nearest-within x = omega (arith, nearest-size x)
+
+pub nearest-half : (x : ℤ) → natAbs (x -ℤ pos 1000 *ℤ nearestWh x) ≤ 500
+unfolding nearestWh
+nearest-half (pos n) =
+    let z = pos n -ℤ pos (1000 * nearest n) in
+    omega (arith, size z, one-side z, minus (pos n) (pos (1000 * nearest n)))
+nearest-half (negsuc n) =
+    let q = negℤ (pos (nearest (suc n))) in
+    let z = negsuc n -ℤ pos 1000 *ℤ q in
+    omega (arith, size z, one-side z, minus (negsuc n) (pos 1000 *ℤ q), times (pos 1000) q, opposite (pos (nearest (suc n))))

@@ -1,0 +1,55 @@
+-- What the tests of a registration and of a reading tell, as bounds that `omega` reads.
+use Prim.Native.Nat.{ℕ, _*_, _≤_}
+use mathlib.Core.Path.{_≡_, refl}
+use mathlib.Core.Bool.{Bool, true, false, _&&_, _||_, and-eq-true-iff}
+use mathlib.Core.Logic.{_⊎_, inl, inr, ⊎-elim}
+use native.Mathlib.Omega.{arith}
+use lib.Dec.{leb, eqb}
+use borrow.Author.Tests.{leb-true, eqb-true}
+use Rattle.words.specs.declared.Registration.{Registration}
+use Rattle.words.specs.declared.Reading.{Reading}
+use Rattle.words.specs.Limits.{segmentMost, directionMost, statusMost, unitMost, categoryMost, llfLeast, llfMost, consumptionMost, qualityMost, issueLeast, issueMost}
+use Rattle.words.specs.Registration.{additionalInRange, registrationInRange}
+use Rattle.words.specs.Reading.{readingInRange}
+
+-- a disjunction of tests that passes, taken apart; a conjunction is taken apart by the library's `and-eq-true-iff`
+pub either : (a b : Bool) → a || b ≡ true → (a ≡ true) ⊎ (b ≡ true)
+either true b e = inl refl
+either false b e = inr e
+
+-- the bounds of a registration's fields; the additional number is 0 unless the flag is set
+pub record RegistrationBounds (s d t b f a c l : ℕ) : Type 0 where
+  pub segment : s ≤ segmentMost
+  pub direction : d ≤ directionMost
+  pub status : t ≤ statusMost
+  pub base : b ≤ unitMost
+  pub flag : f ≤ 1
+  pub additional : a ≤ unitMost * f
+  pub category : c ≤ categoryMost
+  pub llf-least : llfLeast ≤ l
+  pub llf-most : l ≤ llfMost
+
+additional-bounds : (flag additional : ℕ) → additionalInRange flag additional ≡ true → (flag ≤ 1) × (additional ≤ unitMost * flag)
+additional-bounds flag additional h =
+    ⊎-elim
+    (λ none. let k = simp and-eq-true-iff at none in omega (arith, eqb-true))
+    (λ one. let k = simp and-eq-true-iff at one in omega (arith, eqb-true, leb-true))
+    (either (eqb flag 0 && eqb additional 0) (eqb flag 1 && leb additional unitMost) h)
+
+pub registration-bounds : (r : Registration) → registrationInRange r ≡ true → RegistrationBounds (r .segment) (r .direction) (r .status) (r .base) (r .flag) (r .additional) (r .category) (r .llf)
+unfolding registrationInRange
+registration-bounds r h =
+    let k = simp and-eq-true-iff at h in
+    omega (arith, leb-true, additional-bounds (r .flag) (r .additional) (k .0 .0 .0 .1))
+
+pub record ReadingBounds (i q e : ℕ) : Type 0 where
+  pub issue-least : issueLeast ≤ i
+  pub issue-most : i ≤ issueMost
+  pub quality : q ≤ qualityMost
+  pub consumption : e ≤ consumptionMost
+
+pub reading-bounds : (r : Reading) → readingInRange r ≡ true → ReadingBounds (r .issue) (r .quality) (r .consumption)
+unfolding readingInRange
+reading-bounds r h =
+    let k = simp and-eq-true-iff at h in
+    omega (arith, leb-true)
