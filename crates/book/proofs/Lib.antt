@@ -8,3 +8,7 @@ pub mod Rising
 pub mod PlaceOf
 pub mod Written
 pub mod WithRegistration
+pub mod WithReading
+pub mod RegisterCall
+pub mod ReadingCall
+pub mod Parts

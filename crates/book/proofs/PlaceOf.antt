@@ -8,9 +8,10 @@ use native.Mathlib.Omega.{arith}
 use borrow.Author.Tests.{ltb-true, ltb-false, eqb-true, eqb-false, lt-ltb, le-ltb, eq-eqb, ne-eqb}
 use lib.Dec.{ltb, eqb}
 use lib.ListN.{length, getD}
+use Rattle.words.specs.Mpan.{isMpan}
 use Rattle.book.specs.Rows.{Row, firstRow, rowsOf, rowsFormed, isKnown}
 use Rattle.book.specs.Contracts.{placeOf}
-use Rattle.book.proofs.Rising.{formed-first, all-above}
+use Rattle.book.proofs.Rising.{formed-first, all-above, all-mpans}
 use Rattle.book.proofs.RowsOf.{length-rows, row-of}
 
 -- a row's MPAN is below the one looked for, or is it, or is above it
@@ -81,20 +82,22 @@ none-above before (r ∷ rows) m f h =
     let a = g .above in
     known-next r rows m (λ e. omega arith) ∙ none-above (r .mpan) rows m (g .after) (omega arith)
 
+-- nor is the first row, where it is above m
+pub first-above : (before : ℕ) (r : Row) (rows : List Row) (m : ℕ) → rowsFormed before (r ∷ rows) ≡ true → m < r .mpan → isKnown m (r ∷ rows) ≡ false
+first-above before r rows m f h =
+    known-next r rows m (λ e. omega arith) ∙ none-above (r .mpan) rows m (formed-first before r rows f .after) (omega arith)
+
 -- where a row stands at the place, it decides whether the meter is known
 pub known-at : (before : ℕ) (rows : List Row) (m : ℕ) (d : Row) → rowsFormed before rows ≡ true → placeOf m rows < length rows → isKnown m rows ≡ eqb (getD rows (placeOf m rows) d .mpan) m
 known-at before [] m d f l = absurd (not-suc-le-zero l)
 known-at before (r ∷ rows) m d f l =
-    let after = formed-first before r rows f .after in
     by-mpan r m
     (λ h.
     let e = place-next r rows m h in
     let k : placeOf m rows < length rows = le-of-suc-le-suc (rw e at l) in
-    rw (e, known-next r rows m (λ q. omega arith)) (known-at (r .mpan) rows m d after k))
+    rw (e, known-next r rows m (λ q. omega arith)) (known-at (r .mpan) rows m d (formed-first before r rows f .after) k))
     (λ h. rw (place-here r rows m (omega arith)) (known-here r rows m h ∙ sym (eq-eqb (r .mpan) m h)))
-    (λ h.
-    let n : r .mpan ≡ m → ⊥ = λ q. omega arith in
-    rw (place-here r rows m (omega arith)) (known-next r rows m n ∙ none-above (r .mpan) rows m after (omega arith) ∙ sym (ne-eqb (r .mpan) m n)))
+    (λ h. rw (place-here r rows m (omega arith)) (first-above before r rows m f h ∙ sym (ne-eqb (r .mpan) m (λ q. omega arith))))
 
 -- and where none stands there, it is not
 pub known-none : (rows : List Row) (m : ℕ) → length rows ≤ placeOf m rows → isKnown m rows ≡ false
@@ -128,6 +131,9 @@ module _ (words : List ℕ) (n i : ℕ) (inside : i < n) where
 
   mpan-there : getD (rowsOf n words) i (firstRow words) .mpan ≡ getD words (3 * i) 0
   mpan-there = ap (λ (r : Row). r .mpan) (row-of n i words (firstRow words) inside)
+
+  pub mpan-in : rowsFormed 0 (rowsOf n words) ≡ true → isMpan (getD words (3 * i) 0) ≡ true
+  mpan-in f = rw mpan-there at (all-mpans 0 (rowsOf n words) i (firstRow words) f row-there)
 
   pub before-place-in : (m : ℕ) → rowsFormed 0 (rowsOf n words) ≡ true → getD words (3 * i) 0 < m → i < placeOf m (rowsOf n words)
   before-place-in m f h = before-place 0 (rowsOf n words) m i (firstRow words) f row-there (rw mpan-there h)

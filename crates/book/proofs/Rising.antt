@@ -1,12 +1,14 @@
 -- Rows that are well formed: the first row, and those after it. Their MPANs rise.
-use Prim.Native.Nat.{ℕ, zero, suc, _≤_, _<_}
-use mathlib.Core.Path.{_≡_, refl, sym, _∙_, ap, subst}
-use mathlib.Core.Bool.{Bool, true, false, _&&_, and-eq-true-iff}
+use Prim.Native.Nat.{ℕ, zero, suc, _^_, _<_}
+use mathlib.Core.Path.{_≡_, refl}
+use mathlib.Core.Bool.{true, _&&_, and-eq-true-iff}
 use mathlib.Core.List.{List, [], _∷_}
 use native.Mathlib.Nat.{le-of-suc-le-suc, not-suc-le-zero, lt-trans}
-use borrow.Author.Tests.{ltb-true, lt-ltb}
-use lib.Dec.{ltb}
+use native.Mathlib.Omega.{arith}
+use borrow.Author.Tests.{leb-true, ltb-true, lt-ltb}
+use lib.Dec.{leb, ltb}
 use lib.ListN.{length, getD}
+use Rattle.words.specs.Limits.{mpanLeast, mpanMost}
 use Rattle.words.specs.Mpan.{isMpan}
 use Rattle.words.specs.Registration.{isRegistration}
 use Rattle.words.specs.Reading.{isReading}
@@ -53,3 +55,14 @@ all-above before (r ∷ rows) zero d h l = formed-first before r rows h .above
 all-above before (r ∷ rows) (suc i) d h l =
     let f = formed-first before r rows h in
     lt-trans (f .above) (all-above (r .mpan) rows i d (f .after) (le-of-suc-le-suc l))
+
+-- each row's MPAN is in range
+pub all-mpans : (before : ℕ) (rows : List Row) (i : ℕ) (d : Row) → rowsFormed before rows ≡ true → i < length rows → isMpan (getD rows i d .mpan) ≡ true
+all-mpans before [] i d h l = absurd (not-suc-le-zero l)
+all-mpans before (r ∷ rows) zero d h l = formed-first before r rows h .words .mpan-formed
+all-mpans before (r ∷ rows) (suc i) d h l = all-mpans (r .mpan) rows i d (formed-first before r rows h .after) (le-of-suc-le-suc l)
+
+-- an MPAN is a 63-bit number
+pub mpan-small : (m : ℕ) → isMpan m ≡ true → m < 2 ^ 63
+unfolding isMpan
+mpan-small m h = omega (arith, leb-true m mpanMost (and-eq-true-iff (leb mpanLeast m) (leb m mpanMost) .0 h .1))

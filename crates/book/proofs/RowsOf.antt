@@ -1,11 +1,11 @@
 -- The rows of a slice by their place in it: three words a row.
 use Prim.Native.Nat.{ℕ, zero, suc, _+_, _*_, _-_, _≤_, _<_}
 use mathlib.Core.Path.{_≡_, refl, sym, _∙_, ap}
-use mathlib.Core.List.{List, [], _∷_, _++_}
+use mathlib.Core.List.{List, [], _∷_}
 use native.Mathlib.Nat.{add-zero, le-of-suc-le-suc, not-suc-le-zero}
 use native.Mathlib.Omega.{arith}
 use lib.ListN.{length, getD, take, drop, length-drop}
-use lib.Seq.{getD-drop, drop-drop, drop-cons, take-add}
+use lib.Seq.{getD-drop, drop-drop, take-add}
 use Rattle.book.specs.Rows.{Row, firstRow, rowsOf, wordsOf}
 
 -- the row whose words stand from `at` on

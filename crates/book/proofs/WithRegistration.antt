@@ -1,5 +1,5 @@
 -- Rows with a registration stored: a new row in its place, or one word of a row that is there. The rows stay well formed.
-use Prim.Native.Nat.{ℕ, zero, suc, _+_, _*_, _-_, _≤_, _<_}
+use Prim.Native.Nat.{ℕ, _+_, _*_, _-_, _≤_, _<_}
 use mathlib.Core.Path.{_≡_, refl, sym, _∙_, ap}
 use mathlib.Core.Bool.{true, false, true≢false}
 use mathlib.Core.List.{List, [], _∷_, _++_}
@@ -8,12 +8,12 @@ use borrow.Author.Tests.{lt-ltb, le-ltb, eq-eqb, ne-eqb}
 use lib.ListN.{length, getD, set, take, drop, length-append, length-take, length-drop, length-set}
 use Rattle.words.specs.Mpan.{isMpan}
 use Rattle.words.specs.Registration.{isRegistration}
-use Rattle.words.specs.Reading.{isReading, noReading}
+use Rattle.words.specs.Reading.{isReading}
 use Rattle.book.specs.Rows.{Row, firstRow, rowsOf, rowsFormed, isKnown, newRow, withRegistration, written}
 use Rattle.book.specs.Contracts.{placeOf}
-use Rattle.book.proofs.RowsOf.{rowAt, length-rows, row-of}
-use Rattle.book.proofs.Rising.{Words, First, formed-none, formed-first, first-formed}
-use Rattle.book.proofs.PlaceOf.{by-mpan, place-next, place-here, known-next, known-here, none-above, known-within-in, known-mpan-in, place-within, place-within-in}
+use Rattle.book.proofs.RowsOf.{row-of}
+use Rattle.book.proofs.Rising.{Words, formed-none, formed-first, first-formed}
+use Rattle.book.proofs.PlaceOf.{by-mpan, place-next, place-here, known-next, known-here, first-above, known-within-in, known-mpan-in, place-within, place-within-in}
 use Rattle.book.proofs.Written.{written-inserted, written-registration}
 
 module _ (r : Row) (rows : List Row) (m w : ℕ) where
@@ -46,13 +46,12 @@ pub registration-replaced : (before m w : ℕ) (rows : List Row) (d : Row) → r
 unfolding isKnown
 registration-replaced before m w [] d f h = absurd (true≢false (sym h))
 registration-replaced before m w (r ∷ rows) d f h =
-    let after = formed-first before r rows f .after in
     by-mpan r m
     (λ b.
     let k : isKnown m rows ≡ true = rw (known-next r rows m (λ e. omega arith)) at h in
-    rw (stored-next r rows m w b, place-next r rows m b, registration-replaced (r .mpan) m w rows d after k))
+    rw (stored-next r rows m w b, place-next r rows m b, registration-replaced (r .mpan) m w rows d (formed-first before r rows f .after) k))
     (λ b. rw (stored-here r rows m w b, place-here r rows m (omega arith)))
-    (λ b. absurd (true≢false (sym h ∙ known-next r rows m (λ e. omega arith) ∙ none-above (r .mpan) rows m after (omega arith))))
+    (λ b. absurd (true≢false (sym h ∙ first-above before r rows m f b)))
 
 pub length-inserted : (m w : ℕ) (rows : List Row) → isKnown m rows ≡ false → length (withRegistration m w rows) ≡ length rows + 1
 length-inserted m w rows h =
@@ -92,7 +91,7 @@ registration-formed before m w (r ∷ rows) f l hm hw =
 
 module _ (words : List ℕ) (n m w : ℕ) (room : 3 * n ≤ length words) where
   -- a new meter's row is inserted: the words before its place stay, and those from there on are what `insert_row` leaves
-  pub registration-inserts : isKnown m (rowsOf n words) ≡ false → let at = 3 * placeOf m (rowsOf n words) in written (withRegistration m w (rowsOf n words)) words ≡ take at words ++ written (newRow m w ∷ rowsOf (n - placeOf m (rowsOf n words)) (drop at words)) (drop at words)
+  pub registration-inserts : isKnown m (rowsOf n words) ≡ false → written (withRegistration m w (rowsOf n words)) words ≡ take (3 * placeOf m (rowsOf n words)) words ++ written (newRow m w ∷ rowsOf (n - placeOf m (rowsOf n words)) (drop (3 * placeOf m (rowsOf n words)) words)) (drop (3 * placeOf m (rowsOf n words)) words)
   registration-inserts h =
       rw (registration-inserted m w (rowsOf n words) h) (written-inserted n (placeOf m (rowsOf n words)) (newRow m w) words room (place-within-in words n m))
 

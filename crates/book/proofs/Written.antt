@@ -1,13 +1,13 @@
 -- Rows written at the start of a slice: read back, and as the stores that the code makes.
-use Prim.Native.Nat.{ℕ, zero, suc, _+_, _*_, _-_, _≤_, _<_}
+use Prim.Native.Nat.{ℕ, suc, _+_, _*_, _-_, _≤_, _<_}
 use mathlib.Core.Path.{_≡_, refl, sym, _∙_, ap}
 use mathlib.Core.List.{List, [], _∷_, _++_, append-assoc}
 use native.Mathlib.Numerals.{add-one, add-two}
 use native.Mathlib.Omega.{arith}
 use lib.ListN.{length, getD, set, take, drop, length-append, length-drop, take-append-drop}
 use lib.Seq.{drop-drop, set-split, sets-eq, set-getD, getD-set-other}
-use Rattle.book.specs.Rows.{Row, firstRow, rowsOf, wordsOf, written}
-use Rattle.book.proofs.RowsOf.{rowAt, length-rows, take-rows, drop-rows, words-of-rows, length-words}
+use Rattle.book.specs.Rows.{Row, rowsOf, wordsOf, written}
+use Rattle.book.proofs.RowsOf.{length-rows, take-rows, drop-rows, words-of-rows, length-words}
 
 words-append : (rows more : List Row) → wordsOf (rows ++ more) ≡ wordsOf rows ++ wordsOf more
 unfolding wordsOf

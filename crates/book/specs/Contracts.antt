@@ -1,14 +1,15 @@
 -- How the contracts of the functions speak: a call's outcome against what a function returns and leaves.
-use Prim.Native.Nat.{ℕ, suc}
+use Prim.Native.Nat.{ℕ, suc, _≤_}
 use mathlib.Core.Path.{_≡_}
-use mathlib.Core.Bool.{Bool, not, _||_, cond}
+use mathlib.Core.Bool.{Bool, true, not, _||_, cond}
 use mathlib.Core.List.{List, [], _∷_}
 use lib.Dec.{leb, ltb, eqb}
 use Rattle.book.specs.declared.Settings.{Settings}
 use Rattle.book.specs.declared.Answer.{Answer}
 use Rattle.book.specs.declared.Place.{Place}
-use Rattle.book.specs.Rows.{Row, isKnown}
-use Rattle.book.specs.Book.{Book}
+use Rattle.book.specs.Settings.{withMeters}
+use Rattle.book.specs.Rows.{Row, capacity, rowsOf, rowsFormed, isKnown}
+use Rattle.book.specs.Book.{Book, wellFormed}
 use Rattle.book.specs.Causes.{refuse, accepted, bookIllFormed, argumentOutOfRange}
 use Rattle.book.specs.Calls.{Outcome}
 
@@ -41,3 +42,13 @@ placeOf m (r ∷ rows) = cond (ltb (r .mpan) m) (suc (placeOf m rows)) 0
 
 abbrev pub placeIn : ℕ → List Row → Place
 placeIn m rows = record { index = placeOf m rows; known = isKnown m rows }
+
+-- rows that a call may look for a meter in, and write, without a test of its own
+pub record RowsReady (meters : ℕ) (words : List ℕ) : Type 0 where
+  pub within-capacity : meters ≤ capacity words
+  pub formed : rowsFormed 0 (rowsOf meters words) ≡ true
+
+-- what a call leaves that is made on the rows of a well-formed book, whatever its other settings
+pub record Stores (call : Book → Outcome) (meters : ℕ) (words : List ℕ) (number metersAfter : ℕ) (wordsAfter : List ℕ) : Type 0 where
+  pub gives : (s : Settings) → wellFormed (lent (withMeters meters s) words) ≡ true
+      → Gives (call (lent (withMeters meters s) words)) (record { number = number; settings = withMeters metersAfter s }) wordsAfter

@@ -6,10 +6,12 @@ use crate::formed::is_shape;
 use crate::formed::is_take;
 use crate::formed::is_tolerance;
 use crate::formed::is_weight;
+use crate::store::store_reading;
+use crate::store::store_registration;
 use words::Reading;
 use words::Registration;
 ghost use mathlib.Core.Path.{_≡_};
-ghost use Rattle.book.specs.Calls.{shape, weight, tolerance, groupTake, settingInRange, registerInRange, readingCallInRange, settingCall};
+ghost use Rattle.book.specs.Calls.{shape, weight, tolerance, groupTake, settingInRange, registerInRange, readingCallInRange, settingCall, registerCall, readingCall};
 ghost use Rattle.book.specs.Book.{wellFormed};
 ghost use Rattle.book.specs.Contracts.{lent, bookAndRange, Gives};
 
@@ -18,6 +20,14 @@ pub const ACCEPTED: u64 = 0;
 pub const BOOK_ILL_FORMED: u64 = 1;
 
 pub const ARGUMENT_OUT_OF_RANGE: u64 = 2;
+
+pub const QUALITY_REFUSED: u64 = 3;
+
+pub const METER_UNKNOWN: u64 = 4;
+
+pub const ISSUE_NOT_ABOVE: u64 = 5;
+
+pub const CAPACITY_REACHED: u64 = 6;
 
 // Whether the arguments of a call are in their ranges, as numbers of the full width.
 
@@ -121,4 +131,42 @@ pub fn set_take(settings: Settings, rows: &[u64], wh: i64) -> Answer
         number: ACCEPTED,
         settings: made,
     }
+}
+
+// Stores or replaces a meter's registration. A new meter gets its row in order and has no reading; a known one keeps its reading.
+pub fn register(
+    settings: Settings,
+    rows: &mut [u64],
+    mpan: u64,
+    registration: Registration,
+) -> Answer
+    ensures { λ r. ⌜ Gives (registerCall (lent settings (now (rows .entry))) mpan registration) r (now (rows .exit)) ⌝ }
+{
+    if !is_formed(settings, rows) {
+        return Answer {
+            number: BOOK_ILL_FORMED,
+            settings,
+        };
+    }
+    let stored = store_registration(settings.meters, rows, mpan, registration);
+    let mut made = settings;
+    made.meters = stored.meters;
+    Answer {
+        number: stored.number,
+        settings: made,
+    }
+}
+
+// Stores a meter's reading if its issue is above the one held, whatever the order of arrival.
+pub fn record_reading(settings: Settings, rows: &mut [u64], mpan: u64, reading: Reading) -> Answer
+    ensures { λ r. ⌜ Gives (readingCall (lent settings (now (rows .entry))) mpan reading) r (now (rows .exit)) ⌝ }
+{
+    if !is_formed(settings, rows) {
+        return Answer {
+            number: BOOK_ILL_FORMED,
+            settings,
+        };
+    }
+    let number = store_reading(settings.meters, rows, mpan, reading);
+    Answer { number, settings }
 }

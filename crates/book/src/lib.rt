@@ -5,6 +5,7 @@ ghost use Rattle.book.specs.Settings.{freshSettings};
 pub mod calls;
 pub mod formed;
 pub mod rows;
+pub mod store;
 
 // The settings, passed in and returned.
 pub struct Settings {
@@ -26,6 +27,12 @@ pub struct Answer {
 pub struct Place {
     pub index: usize,
     pub known: bool,
+}
+
+// What storing a registration gives: the number, and how many meters there are then.
+pub struct Stored {
+    pub number: u64,
+    pub meters: usize,
 }
 
 impl Settings {

@@ -2,12 +2,16 @@
 use crate::Place;
 use crate::Settings;
 ghost use mathlib.Core.Path.{_≡_};
-ghost use mathlib.Core.Bool.{true};
+ghost use mathlib.Core.Bool.{true, cond};
 ghost use mathlib.Core.List.{_∷_, _++_};
-ghost use Prim.Native.Nat.{_+_, _*_, _≤_};
+ghost use Prim.Native.Nat.{_+_, _*_, _^_, _≤_, _<_, min};
+ghost use lib.Dec.{ltb};
 ghost use lib.ListN.{length, take, drop};
 ghost use Rattle.book.specs.Rows.{capacity, newRow, rowsOf, rowsFormed, written};
 ghost use Rattle.book.specs.Contracts.{placeOf, placeIn};
+
+// Above every MPAN.
+const TOP: u64 = 9_223_372_036_854_775_808;
 
 // How many rows a slice has room for.
 pub fn row_capacity(rows: &[u64]) -> usize
@@ -21,27 +25,44 @@ pub fn row_capacity(rows: &[u64]) -> usize
     }
 }
 
+// `step` if a is below b, else 0, by the top bit of a difference. A comparison would become a branch,
+// which a search takes either way equally often, so that the processor guesses every other one wrong.
+fn step_if_below(a: u64, b: u64, step: usize) -> usize
+    requires { ⌜ a < 2 ^ 63 ⌝ ∗ ⌜ b ≤ 2 ^ 63 ⌝ }
+    ensures { λ r. ⌜ r ≡ cond (ltb a b) step 0 ⌝ }
+{
+    let at_least = ((a + (TOP - b)) >> 63) as usize;
+    step - step * at_least
+}
+
+// A number that compares with every MPAN as m does, and is small enough for `step_if_below`.
+fn search_key(m: u64) -> u64
+    ensures { λ r. ⌜ r ≡ min m (2 ^ 63) ⌝ }
+{
+    if m <= TOP { m } else { TOP }
+}
+
 // How many of the first n rows, which rise, have an MPAN below m: where m's row stands or is to stand.
-// That number is never below `low` and never above `low + left`. Each turn halves `left`, whichever way
-// the row in the middle compares, so the number of turns depends on n alone.
+// That number is at least `low` and at most `low + left`. Each turn halves `left`, whichever way the row
+// in the middle compares, so the number of turns depends on n alone.
 fn lower_bound(rows: &[u64], n: usize, m: u64) -> usize
     requires { ⌜ 3 * n ≤ length (now rows) ⌝ ∗ ⌜ rowsFormed 0 (rowsOf n (now rows)) ≡ true ⌝ }
     ensures { λ r. ⌜ r ≡ placeOf m (rowsOf n (now (rows .entry))) ⌝ }
 {
+    if n == 0 {
+        return 0;
+    }
+    let key = search_key(m);
     let mut low = 0;
     let mut left = n;
     while 1 < left {
         let half = left / 2;
-        let middle = low + half;
-        if rows[3 * middle] < m {
-            low = middle;
-        }
+        let row = rows[3 * (low + half)];
+        low += step_if_below(row, key, half);
         left -= half;
     }
-    if left == 0 {
-        return low;
-    }
-    if rows[3 * low] < m { low + 1 } else { low }
+    let row = rows[3 * low];
+    low + step_if_below(row, key, 1)
 }
 
 // Where m's row stands or is to stand among the first n rows, and whether it is there.

@@ -1,17 +1,13 @@
 -- `find` gives the place that `lower_bound` found, and the test of the row that stands there. Assumes nothing.
-use native.Mathlib.Omega.{arith}
 use Prim.Native.Nat.{ℕ, _*_, _≤_, _<_}
-use mathlib.Core.Path.{_≡_, refl, sym, _∙_, ap}
-use mathlib.Core.Bool.{Bool, true, false}
+use mathlib.Core.Path.{_≡_}
+use mathlib.Core.Bool.{true, false}
 use mathlib.Core.List.{List}
 use lib.Dec.{eqb}
 use lib.ListN.{getD}
-use Rattle.book.specs.declared.Place.{Place}
 use Rattle.book.specs.Rows.{rowsOf, rowsFormed}
 use Rattle.book.specs.Contracts.{placeOf, placeIn}
 use Rattle.book.proofs.PlaceOf.{known-none-in, known-at-in}
-use Rattle.book.proofs.rows.find.Reads as reads
-use Rattle.book.proofs.rows.find.Lts as lts
 use borrow.Author.Needs.{needs}
 use Rattle.book.proofs.rows.find.Statement.{statement}
 use Rattle.book.proofs.rows.find.Tie as tie

@@ -1,6 +1,6 @@
 -- `insert_row` writes the new row and, after it, the rows that stood there. Assumes nothing.
 use Prim.Native.Nat.{ℕ, _+_, _*_, _≤_}
-use mathlib.Core.Path.{_≡_, refl, sym, _∙_, ap}
+use mathlib.Core.Path.{_≡_}
 use mathlib.Core.List.{List, _∷_, _++_}
 use native.Mathlib.Omega.{arith}
 use lib.ListN.{length, set, take, drop, length-set}
@@ -8,8 +8,6 @@ use lib.Seq.{drop-drop}
 use Rattle.book.specs.Rows.{newRow, rowsOf, written}
 use Rattle.book.proofs.RowsOf.{first-three, length-rows, words-of-rows}
 use Rattle.book.proofs.Written.{written-cons}
-use Rattle.book.proofs.rows.insert_row.Reads as reads
-use Rattle.book.proofs.rows.insert_row.Lts as lts
 use borrow.Author.Needs.{needs}
 use Rattle.book.proofs.rows.insert_row.Statement.{statement}
 use Rattle.book.proofs.rows.insert_row.Tie as tie

@@ -1,13 +1,10 @@
 -- `move_up` moves the first words three places up: those from `i` on have moved. Assumes nothing.
 use Prim.Native.Nat.{ℕ, suc, _+_, _-_, _≤_, _<_}
 use mathlib.Core.Path.{_≡_, refl, sym, _∙_, ap}
-use mathlib.Core.List.{List, [], _∷_, _++_, append-assoc, append-nil}
+use mathlib.Core.List.{List, _∷_, _++_, append-assoc, append-nil}
 use native.Mathlib.Omega.{arith}
-use borrow.Author.Needs.{needs}
 use lib.ListN.{length, getD, set, take, drop, length-set, take-append-drop, List·getD-append}
 use lib.Seq.{slice, slice-empty, slice-cons, length-take-le, take-suc, getD-take, set-at}
-use Rattle.book.proofs.rows.move_up.Reads as reads
-use Rattle.book.proofs.rows.move_up.Lts as lts
 use Rattle.book.proofs.rows.move_up.Statement.{statement}
 use Rattle.book.proofs.rows.move_up.Tie as tie
 
