@@ -1,2 +1,20 @@
 -- Laws of an allocation's definitions.
 pub mod Permuted
+pub mod Counting
+pub mod CountWhere
+pub mod Ranked
+pub mod Rounds
+pub mod Served
+pub mod RoundedVolumes
+pub mod Apportioned
+pub mod VolumesOf
+pub mod AnyOrder
+pub mod Counted
+pub mod Accepted
+pub mod Outcome
+pub mod Each
+pub mod RowBounds
+pub mod Totals
+pub mod CellBounds
+pub mod SumBounds
+pub mod Bounds

@@ -79,9 +79,7 @@ pub record MovedReadings (capacity : ℕ) (calls moved : List Call) : Type 0 whe
   pub others : gather otherCall calls ≡ gather otherCall moved
   -- each reading call stands as often in the one as in the other
   pub readings : (m : ℕ) (r : Reading) → timesIn r (gather (readingCalled m) calls) ≡ timesIn r (gather (readingCalled m) moved)
-  -- proviso 1: "among those after its first such call": of a meter accepted, no reading that counts moves to the other side of it
-  pub since : (m : ℕ) → isIn m (meantMpans capacity calls) ≡ true → (r : Reading) → timesIn r (countedReadings calls m) ≡ timesIn r (countedReadings moved m)
-  -- proviso 2: "the earlier of equals": of a meter accepted and an issue, the earliest reading stays the earliest
+  -- both provisos: of a meter accepted, and of an issue, the earliest of the readings that count is the same
   pub earliest : (m : ℕ) → isIn m (meantMpans capacity calls) ≡ true → (issue : ℕ) → earliestOf issue (countedReadings calls m) ≡ earliestOf issue (countedReadings moved m)
 
 -- the four counts of an answer, added up

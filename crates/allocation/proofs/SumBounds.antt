@@ -1,0 +1,106 @@
+-- How large n, a, U and W can be, from all cells together.
+use Prim.Native.Nat.{ℕ, suc, _+_, _*_, _/_, _%_, _≤_}
+use mathlib.Core.Path.{_≡_, refl, ap}
+use mathlib.Core.Bool.{Bool, true, false, cond, and-eq-true-iff}
+use mathlib.Core.List.{List, [], _∷_, map, map-map}
+use native.Mathlib.Omega.{arith}
+use native.Mathlib.Nat.{mul-le-mul-left}
+use lib.Dec.{eqb}
+use lib.ListN.{length}
+use lib.IntN.{ℤ, pos, natAbs, negℤ, _*ℤ_}
+use borrow.Author.Tests.{leb-true}
+use Rattle.integers.proofs.Size.{size-plus, size-neg, size-times}
+use Rattle.book.specs.Limits.{classes}
+use Rattle.book.specs.declared.Settings.{Settings}
+use Rattle.book.specs.Settings.{isWeight, allOf}
+use Rattle.book.specs.Rows.{Row}
+use Rattle.allocation.specs.Cells.{cell, countFrom, cellsOf}
+use Rattle.allocation.specs.Correction.{units, byDirection, netOf, weightedOf, unitSums, allUnitSums, netIn, weightedIn}
+use Rattle.allocation.proofs.Each.{Each}
+use Rattle.allocation.proofs.RowBounds.{RowBounds}
+use Rattle.allocation.proofs.Totals.{total, total-plus, total-mono, total-one, total-const, total-times, sizes, sizes-total}
+use Rattle.allocation.proofs.CellBounds.{thousandths, cell-thousandths, thousandths-total}
+
+-- n and a of a unit, from the sizes of its cells
+pub net-most : (class : ℕ) (cells : List ℤ) → natAbs (netOf class cells) ≤ sizes cells
+unfolding netOf sizes
+net-most class [] = omega arith
+net-most class (c ∷ cells) = omega (arith, size-plus (byDirection class c) (netOf (suc class) cells), by (eqb (class / 4 % 2) 0), net-most (suc class) cells)
+  where
+    by : (t : Bool) → natAbs (cond t c (negℤ c)) ≡ natAbs c
+    by true = refl
+    by false = size-neg c
+
+pub weighted-most : (cells : List ℤ) (weights : List ℕ) → allOf isWeight weights ≡ true → natAbs (weightedOf cells weights) ≤ 1000 * sizes cells
+unfolding weightedOf sizes allOf
+weighted-most [] weights h = omega arith
+weighted-most (c ∷ cells) [] h = omega arith
+weighted-most (c ∷ cells) (w ∷ weights) h =
+    let parts = and-eq-true-iff (isWeight w) (allOf isWeight weights) .0 h in
+    omega (
+      arith,
+      size-plus (c *ℤ pos w) (weightedOf cells weights),
+      size-times c (pos w),
+      mul-le-mul-left (natAbs c) (leb-true w 1000 (parts .0)),
+      weighted-most cells weights (parts .1),
+    )
+
+-- the cells of one unit, and of all units
+module _ (shapes : List ℕ) {meters : List Row} (e : Each (RowBounds shapes) meters) where
+  unit-thousandths : (unit : ℕ) → 1000 * sizes (cellsOf shapes meters unit) ≤ total (thousandths shapes meters unit) 0 classes + 12000
+  unfolding cellsOf
+  unit-thousandths unit =
+      let c : ℕ → ℕ = λ class. natAbs (cell shapes meters unit class) in
+      omega (
+        arith,
+        sizes-total (cell shapes meters unit) 0 classes,
+        total-times 1000 c 0 classes,
+        total-plus (λ class. 1000 * c class) (thousandths shapes meters unit) (λ class. 500) (cell-thousandths shapes meters unit) 0 classes,
+        total-const 500 0 classes,
+      )
+
+  pub cells-total : total (λ unit. sizes (cellsOf shapes meters unit)) 0 units ≤ length meters * 20000000 + 384
+  cells-total =
+      let c : ℕ → ℕ = λ unit. sizes (cellsOf shapes meters unit) in
+      let t : ℕ → ℕ = λ unit. total (thousandths shapes meters unit) 0 classes in
+      omega (
+        arith,
+        total-times 1000 c 0 units,
+        total-plus (λ unit. 1000 * c unit) t (λ unit. 12000) unit-thousandths 0 units,
+        total-const 12000 0 units,
+        thousandths-total shapes e 0 units 0 classes,
+      )
+
+  pub cells-of-unit : (unit : ℕ) → sizes (cellsOf shapes meters unit) ≤ length meters * 20000000 + 12
+  cells-of-unit unit =
+      let t : ℕ → ℕ = λ unit. total (thousandths shapes meters unit) 0 classes in
+      omega (arith, unit-thousandths unit, total-one t unit, thousandths-total shapes e unit 1 0 classes)
+
+-- n and a of all units
+module _ (s : Settings) {meters : List Row} (e : Each (RowBounds (s .shapes)) meters) (few : length meters ≤ 65536) where
+  pub nets-total : sizes (map netIn (allUnitSums s meters)) ≤ 1310720000384
+  unfolding allUnitSums unitSums
+  nets-total =
+      let n : ℕ → ℤ = λ unit. netOf 0 (cellsOf (s .shapes) meters unit) in
+      let c : ℕ → ℕ = λ unit. sizes (cellsOf (s .shapes) meters unit) in
+      omega (
+        arith,
+        ap sizes (map-map netIn (unitSums s meters) (countFrom 0 units)),
+        sizes-total n 0 units,
+        total-mono (λ unit. natAbs (n unit)) c (λ unit. net-most 0 (cellsOf (s .shapes) meters unit)) 0 units,
+        cells-total (s .shapes) e,
+      )
+
+  pub weighteds-total : allOf isWeight (s .weights) ≡ true → sizes (map weightedIn (allUnitSums s meters)) ≤ 1310720000384000
+  unfolding allUnitSums unitSums
+  weighteds-total h =
+      let a : ℕ → ℤ = λ unit. weightedOf (cellsOf (s .shapes) meters unit) (s .weights) in
+      let c : ℕ → ℕ = λ unit. sizes (cellsOf (s .shapes) meters unit) in
+      omega (
+        arith,
+        ap sizes (map-map weightedIn (unitSums s meters) (countFrom 0 units)),
+        sizes-total a 0 units,
+        total-mono (λ unit. natAbs (a unit)) (λ unit. 1000 * c unit) (λ unit. weighted-most (cellsOf (s .shapes) meters unit) (s .weights) h) 0 units,
+        total-times 1000 c 0 units,
+        cells-total (s .shapes) e,
+      )

@@ -1,0 +1,137 @@
+-- A book is what a list of calls means: the statement, what it tells of the meters, and how it is kept by a refused call and by new rows.
+use Prim.Native.Nat.{ℕ, _≤_, _<_}
+use mathlib.Core.Path.{_≡_, refl, sym, _∙_, ap}
+use mathlib.Core.Bool.{true, false}
+use mathlib.Core.List.{List, [], _∷_, _++_, map}
+use native.Mathlib.Omega.{arith}
+use borrow.Author.Tests.{leb-true, leb-false}
+use lib.Dec.{leb}
+use lib.ListN.{length, length-map}
+use Rattle.words.specs.Reading.{issueOf}
+use Rattle.book.specs.Settings.{withMeters}
+use Rattle.book.specs.Rows.{Row, capacity, rowsOf, rowsFormed, isKnown, issueHeld, written}
+use Rattle.book.specs.Book.{Book, usedRows, wellFormed}
+use Rattle.book.specs.Calls.{Call, withRows}
+use Rattle.book.proofs.RowsOf.{length-rows}
+use Rattle.book.proofs.WellFormed.{room}
+use Rattle.book.proofs.Written.{length-written, rows-of-written}
+use Rattle.allocation.proofs.Permuted.{Permuted, back, mapped}
+use Rattle.settlement.specs.Meaning.{settingSet, meantMpans, countedReadings, newestReading, meantMeter, meantMeters, meantSettings}
+use Rattle.settlement.specs.Demand.{isIn}
+use Rattle.settlement.proofs.Each.{each-mapped, each-permuted, length-permuted, in-permuted}
+use Rattle.settlement.proofs.MeantSettings.{settings-kept}
+use Rattle.settlement.proofs.Stored.{mpanOf, known-in, GivenBy, issue-given}
+use Rattle.settlement.proofs.Formed.{FormedBook, formed-book, book-formed, meters-formed}
+
+-- the book b, on a slice as long as `words`, is well formed and is what the list means
+pub record Means (words : List ℕ) (b : Book) (calls : List Call) : Type 0 where
+  pub formed : wellFormed b ≡ true
+  pub size : length (b .rows) ≡ length words
+  pub settings-meant : b .settings ≡ meantSettings (capacity words) calls
+  pub meters-meant : Permuted Row (usedRows b) (meantMeters (capacity words) calls)
+
+pub capacity-same : (words more : List ℕ) → length words ≡ length more → capacity words ≡ capacity more
+unfolding capacity
+capacity-same words more h = rw h
+
+mpans-of : (calls : List Call) (ks : List ℕ) → map mpanOf (map (meantMeter calls) ks) ≡ ks
+unfolding meantMeter
+mpans-of calls [] = refl
+mpans-of calls (k ∷ ks) = ap (λ (l : List ℕ). k ∷ l) (mpans-of calls ks)
+
+pub length-meters : (n : ℕ) (calls : List Call) → length (meantMeters n calls) ≡ length (meantMpans n calls)
+unfolding meantMeters
+length-meters n calls = length-map (meantMpans n calls) (meantMeter calls)
+
+module _ (words : List ℕ) (b : Book) (calls : List Call) (means : Means words b calls) where
+  -- a meter is in the book exactly if the list means it
+  pub known-meant : (m : ℕ) → isKnown m (usedRows b) ≡ isIn m (meantMpans (capacity words) calls)
+  unfolding meantMeters
+  known-meant m =
+      known-in m (usedRows b)
+      ∙ in-permuted m (mapped mpanOf (means .meters-meant))
+      ∙ ap (isIn m) (mpans-of calls (meantMpans (capacity words) calls))
+
+  pub count-meant : b .settings .meters ≡ length (meantMpans (capacity words) calls)
+  unfolding meantSettings
+  count-meant = ap (λ s. s .meters) (means .settings-meant)
+
+  pub rows-counted : length (usedRows b) ≡ length (meantMpans (capacity words) calls)
+  unfolding usedRows
+  rows-counted = length-rows (b .settings .meters) (b .rows) ∙ count-meant
+
+  pub capacity-kept : capacity (b .rows) ≡ capacity words
+  capacity-kept = capacity-same (b .rows) words (means .size)
+
+  pub rows-within : length (usedRows b) ≤ capacity words
+  rows-within =
+      let count = rows-counted in
+      let meters = count-meant in
+      let same = capacity-kept in
+      let within = formed-book b (means .formed) .within in
+      omega arith
+
+  -- what the test of the capacity tells
+  pub room-left : leb (capacity (b .rows)) (b .settings .meters) ≡ false → length (usedRows b) < capacity words
+  room-left h =
+      let count = rows-counted in
+      let meters = count-meant in
+      let same = capacity-kept in
+      let above = leb-false (capacity (b .rows)) (b .settings .meters) h in
+      omega arith
+
+  pub no-room-left : leb (capacity (b .rows)) (b .settings .meters) ≡ true → capacity words ≤ length (usedRows b)
+  no-room-left h =
+      let count = rows-counted in
+      let meters = count-meant in
+      let same = capacity-kept in
+      let above = leb-true (capacity (b .rows)) (b .settings .meters) h in
+      omega arith
+
+  -- the issue that a known meter holds is that of the reading it is meant to have
+  pub issue-meant : (m : ℕ) → isKnown m (usedRows b) ≡ true → issueHeld m (usedRows b) ≡ issueOf (newestReading (countedReadings calls m))
+  unfolding meantMeters meantMeter
+  issue-meant m h =
+      let each = each-mapped {P = GivenBy (meantMeter calls)} (meantMeter calls) (λ k. record { same = refl }) (meantMpans (capacity words) calls) in
+      issue-given (meantMeter calls) m (usedRows b) (each-permuted (back (means .meters-meant)) each) h
+
+  module _ (c : Call) (no-setting : settingSet c ≡ []) where
+    -- a call after which the list means the same meters
+    pub refused-means : meantMpans (capacity words) (calls ++ c ∷ []) ≡ meantMpans (capacity words) calls → meantMeters (capacity words) (calls ++ c ∷ []) ≡ meantMeters (capacity words) calls → Means words b (calls ++ c ∷ [])
+    unfolding meantSettings
+    refused-means mpans meters =
+        let settings : meantSettings (capacity words) (calls ++ c ∷ []) ≡ meantSettings (capacity words) calls =
+        settings-kept (capacity words) calls c no-setting ∙ ap (λ (l : List ℕ). withMeters (length l) (meantSettings (capacity words) calls)) mpans
+        in
+        record {
+          formed = means .formed;
+          size = means .size;
+          settings-meant = means .settings-meant ∙ sym settings;
+          meters-meant = rw meters (means .meters-meant);
+        }
+
+    -- a call that leaves the meters that the list then means
+    pub rows-means : (rows : List Row) → rowsFormed 0 rows ≡ true → length rows ≤ capacity words → Permuted Row rows (meantMeters (capacity words) (calls ++ c ∷ [])) → Means words (withRows rows b) (calls ++ c ∷ [])
+    unfolding usedRows
+    rows-means rows formed within meters =
+        let before = formed-book b (means .formed) in
+        let fits : length rows ≤ capacity (b .rows) = rw capacity-kept within in
+        let long : length (written rows (b .rows)) ≡ length (b .rows) = length-written rows (b .rows) (room (b .rows) (length rows) fits) in
+        let back-again : rowsOf (length rows) (written rows (b .rows)) ≡ rows = rows-of-written (length rows) rows (b .rows) refl in
+        let count : length rows ≡ length (meantMpans (capacity words) (calls ++ c ∷ [])) = length-permuted meters ∙ length-meters (capacity words) (calls ++ c ∷ []) in
+        let whole : FormedBook (withRows rows b) =
+        record {
+          within = rw (capacity-same (written rows (b .rows)) (b .rows) long) fits;
+          settings-formed = meters-formed (length rows) (b .settings) (before .settings-formed);
+          rows-formed = rw back-again formed;
+        }
+        in
+        record {
+          formed = book-formed (withRows rows b) whole;
+          size = long ∙ means .size;
+          settings-meant =
+              ap (withMeters (length rows)) (means .settings-meant)
+              ∙ ap (λ (n : ℕ). withMeters n (meantSettings (capacity words) calls)) count
+              ∙ sym (settings-kept (capacity words) calls c no-setting);
+          meters-meant = rw back-again meters;
+        }

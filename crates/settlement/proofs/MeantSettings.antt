@@ -1,0 +1,135 @@
+-- What a list means for the settings, with one more call at its end: an in-range call that sets a setting replaces that setting, and no other call bears on them.
+use Prim.Native.Nat.{ℕ, zero, suc, _+_, _<_}
+use mathlib.Core.Path.{_≡_, refl, sym, _∙_, ap, fun-ext}
+use mathlib.Core.Bool.{true, or-true}
+use mathlib.Core.List.{List, [], _∷_, _++_, map}
+use native.Mathlib.Nat.{le-of-suc-le-suc, not-suc-le-zero, add-zero, zero-add}
+use native.Mathlib.Omega.{arith}
+use borrow.Author.Tests.{eqb-true, eqb-false, eq-eqb, ne-eqb}
+use lib.Dec.{eqb}
+use lib.ListN.{length, getD, set, length-set, length-map}
+use lib.Seq.{take-nil, ext-getD, getD-set-same, getD-set-other}
+use Rattle.book.specs.declared.Settings.{Settings}
+use Rattle.book.specs.Limits.{classes, categories}
+use Rattle.book.specs.Settings.{freshSettings, withMeters}
+use Rattle.book.specs.Calls.{Setting, shape, weight, tolerance, groupTake, Call, setting, settingInRange, withSetting}
+use Rattle.allocation.specs.Cells.{countFrom}
+use Rattle.settlement.specs.Meaning.{only, gather, lastOr, isAny, settingSet, settingsSet, weightSet, shapeSet, toleranceSet, takeSet, meantWeight, meantShape, meantTolerance, meantTake, meantTakeSet, mpanRegistered, different, meantMpans, meantSettings}
+use Rattle.settlement.proofs.Snoc.{by-test, gather-end, gather-nothing, last-kept, last-gathered, any-append}
+
+length-counted : (k n : ℕ) → length (countFrom k n) ≡ n
+unfolding countFrom
+length-counted k zero = refl
+length-counted k (suc n) = ap suc (length-counted (suc k) n)
+
+counted-at : (f : ℕ → ℕ) (k n i d : ℕ) → i < n → getD (map f (countFrom k n)) i d ≡ f (k + i)
+unfolding countFrom
+counted-at f k zero i d h = absurd (not-suc-le-zero h)
+counted-at f k (suc n) zero d h = sym (ap f (add-zero k))
+counted-at f k (suc n) (suc i) d h =
+    let e : suc k + i ≡ k + suc i = omega arith in
+    counted-at f (suc k) n i d (le-of-suc-le-suc h) ∙ ap f e
+
+-- one entry of a table replaced
+pub set-counted : (f g : ℕ → ℕ) (n k v : ℕ) → g k ≡ v → ((i : ℕ) → (i ≡ k → ⊥) → g i ≡ f i) → set (map f (countFrom 0 n)) k v ≡ map g (countFrom 0 n)
+set-counted f g n k v here there =
+    let size : length (map f (countFrom 0 n)) ≡ n = length-map (countFrom 0 n) f ∙ length-counted 0 n in
+    let size′ : length (map g (countFrom 0 n)) ≡ n = length-map (countFrom 0 n) g ∙ length-counted 0 n in
+    let size-set = length-set (map f (countFrom 0 n)) k v in
+    let same : (i : ℕ) → i < length (set (map f (countFrom 0 n)) k v) → getD (set (map f (countFrom 0 n)) k v) i 0 ≡ getD (map g (countFrom 0 n)) i 0 =
+    λ i h.
+    let inside : i < n = omega arith in
+    let i-th : (e : ℕ → ℕ) → getD (map e (countFrom 0 n)) i 0 ≡ e i = λ e. counted-at e 0 n i 0 inside ∙ ap e (zero-add i) in
+    by-test (eqb i k)
+    (λ q.
+    let e = eqb-true i k q in
+    rw (i-th g, e, getD-set-same (map f (countFrom 0 n)) k v 0 (omega arith)) (sym here))
+    (λ q.
+    let e = eqb-false i k q in
+    getD-set-other (map f (countFrom 0 n)) k i v 0 e ∙ i-th f ∙ sym (there i e) ∙ sym (i-th g))
+    in
+    ext-getD 0 (set (map f (countFrom 0 n)) k v) (map g (countFrom 0 n)) (size-set ∙ size ∙ sym size′) same
+
+-- a table of settings: for each number the last one set, or the fresh one
+unfoldable tableOf : (ℕ → ℕ) → (ℕ → Setting → List ℕ) → List Setting → ℕ → ℕ
+tableOf fresh f xs i = lastOr (fresh i) (gather (f i) xs)
+
+module _ (fresh : ℕ → ℕ) (f : ℕ → Setting → List ℕ) (xs : List Setting) (x : Setting) where
+  table-kept : ((i : ℕ) → f i x ≡ []) → tableOf fresh f (xs ++ x ∷ []) ≡ tableOf fresh f xs
+  unfolding tableOf
+  table-kept h = fun-ext (λ i. last-kept (fresh i) (f i) xs x (h i))
+
+  table-set : (n k v : ℕ) → ((i : ℕ) → f i x ≡ only (eqb k i) v) → map (tableOf fresh f (xs ++ x ∷ [])) (countFrom 0 n) ≡ set (map (tableOf fresh f xs) (countFrom 0 n)) k v
+  unfolding tableOf only
+  table-set n k v h =
+      sym (set-counted (tableOf fresh f xs) (tableOf fresh f (xs ++ x ∷ [])) n k v
+      (last-gathered (fresh k) (f k) xs x v (h k ∙ rw (eq-eqb k k refl)))
+      (λ i e. last-kept (fresh i) (f i) xs x (h i ∙ rw (ne-eqb k i (λ q. e (sym q))))))
+
+-- the settings that a list of settings set comes to, with the number of meters
+abbrev freshWeight : ℕ → ℕ
+freshWeight class = getD (freshSettings .weights) class 0
+
+abbrev freshShape : ℕ → ℕ
+freshShape category = getD (freshSettings .shapes) category 0
+
+unfoldable settingsFrom : ℕ → List Setting → Settings
+settingsFrom n xs =
+    record {
+      meters = n;
+      weights = map (tableOf freshWeight weightSet xs) (countFrom 0 classes);
+      shapes = map (tableOf freshShape shapeSet xs) (countFrom 0 categories);
+      tolerance = lastOr (freshSettings .tolerance) (gather toleranceSet xs);
+      «take_wh» = lastOr (freshSettings .«take_wh») (gather takeSet xs);
+      «take_set» = isAny (gather takeSet xs);
+    }
+
+meant-from : (capacity : ℕ) (calls : List Call) → meantSettings capacity calls ≡ settingsFrom (length (meantMpans capacity calls)) (settingsSet calls)
+unfolding meantSettings meantWeight meantShape meantTolerance meantTake meantTakeSet settingsFrom tableOf
+meant-from capacity calls = refl
+
+-- one more setting set
+settings-end : (n : ℕ) (xs : List Setting) (x : Setting) → settingsFrom n (xs ++ x ∷ []) ≡ withSetting x (settingsFrom n xs)
+unfolding settingsFrom withSetting weightSet shapeSet toleranceSet takeSet isAny
+settings-end n xs (shape k wh) =
+    let x = shape k wh in
+    rw (table-kept freshWeight weightSet xs x (λ i. refl), table-set freshShape shapeSet xs x categories k wh (λ i. refl), gather-nothing toleranceSet xs x refl, gather-nothing takeSet xs x refl)
+settings-end n xs (weight k thousandths) =
+    let x = weight k thousandths in
+    rw (table-set freshWeight weightSet xs x classes k thousandths (λ i. refl), table-kept freshShape shapeSet xs x (λ i. refl), gather-nothing toleranceSet xs x refl, gather-nothing takeSet xs x refl)
+settings-end n xs (tolerance g) =
+    let x = tolerance g in
+    rw (table-kept freshWeight weightSet xs x (λ i. refl), table-kept freshShape shapeSet xs x (λ i. refl), last-gathered (freshSettings .tolerance) toleranceSet xs x g refl, gather-nothing takeSet xs x refl)
+settings-end n xs (groupTake wh) =
+    let x = groupTake wh in
+    let any : isAny (gather takeSet (xs ++ x ∷ [])) ≡ true = rw (gather-end takeSet xs x, any-append (gather takeSet xs) (wh ∷ [])) (or-true (isAny (gather takeSet xs))) in
+    rw (table-kept freshWeight weightSet xs x (λ i. refl), table-kept freshShape shapeSet xs x (λ i. refl), gather-nothing toleranceSet xs x refl, last-gathered (freshSettings .«take_wh») takeSet xs x wh refl, any)
+
+-- the settings that a list means, with one more call at its end
+module _ (capacity : ℕ) (calls : List Call) where
+  pub mpans-kept : (c : Call) → mpanRegistered c ≡ [] → meantMpans capacity (calls ++ c ∷ []) ≡ meantMpans capacity calls
+  unfolding meantMpans
+  mpans-kept c h = rw (gather-nothing mpanRegistered calls c h)
+
+  pub settings-set : (x : Setting) → settingInRange x ≡ true → meantSettings capacity (calls ++ setting x ∷ []) ≡ withSetting x (meantSettings capacity calls)
+  unfolding mpanRegistered settingSet only
+  settings-set x h =
+      let c = setting x in
+      let set-last : settingsSet (calls ++ c ∷ []) ≡ settingsSet calls ++ x ∷ [] = gather-end settingSet calls c ∙ rw h in
+      rw (meant-from capacity (calls ++ c ∷ []), meant-from capacity calls, mpans-kept c refl, set-last) (settings-end (length (meantMpans capacity calls)) (settingsSet calls) x)
+
+  -- a call that sets no setting
+  pub settings-kept : (c : Call) → settingSet c ≡ [] → meantSettings capacity (calls ++ c ∷ []) ≡ withMeters (length (meantMpans capacity (calls ++ c ∷ []))) (meantSettings capacity calls)
+  unfolding settingsFrom
+  settings-kept c h =
+      let kept : settingsSet (calls ++ c ∷ []) ≡ settingsSet calls = gather-nothing settingSet calls c h in
+      rw (meant-from capacity (calls ++ c ∷ []), meant-from capacity calls, kept)
+
+-- lists with the same settings set and the same meters
+pub settings-same : (capacity : ℕ) (calls moved : List Call) → settingsSet calls ≡ settingsSet moved → meantMpans capacity calls ≡ meantMpans capacity moved → meantSettings capacity calls ≡ meantSettings capacity moved
+settings-same capacity calls moved h k = rw (meant-from capacity calls, meant-from capacity moved, h, k)
+
+-- the empty list means the fresh settings
+pub settings-fresh : (capacity : ℕ) → freshSettings ≡ meantSettings capacity []
+unfolding meantSettings meantWeight meantShape meantTolerance meantTake meantTakeSet meantMpans gather lastOr isAny different countFrom
+settings-fresh capacity = rw (take-nil capacity)

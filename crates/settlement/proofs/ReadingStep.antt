@@ -1,0 +1,134 @@
+-- A reading call, made on a book that is what a list means, leaves the book that the list with this call means: refused for its arguments, of a meter not in the book, of an issue not above the one held, and stored.
+use Prim.Native.Nat.{ℕ, _≤_, _<_}
+use mathlib.Core.Path.{_≡_, refl, sym, _∙_}
+use mathlib.Core.Bool.{true, false, _&&_, and-eq-true-iff}
+use mathlib.Core.List.{List, [], _∷_, _++_}
+use borrow.Author.Tests.{leb-true, leb-false, eqb-true, eqb-false}
+use lib.Dec.{leb, eqb}
+use Rattle.words.specs.declared.Reading.{Reading}
+use Rattle.words.specs.Mpan.{isMpan}
+use Rattle.words.specs.Reading.{issueOf, readingInRange, qualityAllowed, readingWord}
+use Rattle.words.proofs.ReadingWord.{issue-kept, reading-word-well-formed}
+use Rattle.book.specs.Rows.{Row, capacity, isKnown, issueHeld, withReading}
+use Rattle.book.specs.Book.{Book, usedRows}
+use Rattle.book.specs.Calls.{Call, reading, outcome, readingCallInRange, readingCause, readingCall}
+use Rattle.book.proofs.WithReading.{length-reading, reading-formed}
+use Rattle.allocation.proofs.Permuted.{Permuted, mapped}
+use Rattle.settlement.specs.Meaning.{gather, settingSet, mpanRegistered, meantMpans, countedReadings, newestReading, meantMeter, meantMeters}
+use Rattle.settlement.proofs.Snoc.{by-test, eqb-either-way}
+use Rattle.settlement.proofs.Each.{map-after}
+use Rattle.settlement.proofs.Different.{in-different, in-take}
+use Rattle.settlement.proofs.Newest.{later-higher, earlier-kept}
+use Rattle.settlement.proofs.Counted.{isRegistered, registered-in}
+use Rattle.settlement.proofs.MeantSettings.{mpans-kept}
+use Rattle.settlement.proofs.MeantMeters.{meters-kept, reading-refused, read-other, read-itself, others-read}
+use Rattle.settlement.proofs.Stored.{atMeter, readAs, changed-here, changed-not, reading-mapped}
+use Rattle.settlement.proofs.Formed.{formed-book}
+use Rattle.settlement.proofs.Means.{Means, known-meant, rows-within, issue-meant, refused-means, rows-means}
+
+module _ (words : List ℕ) (b : Book) (calls : List Call) (means : Means words b calls) (m : ℕ) (r : Reading) where
+  mpans-same : meantMpans (capacity words) (calls ++ reading m r ∷ []) ≡ meantMpans (capacity words) calls
+  unfolding mpanRegistered
+  mpans-same = mpans-kept (capacity words) calls (reading m r) refl
+
+  -- refused, and the list means the same meters
+  kept : meantMeters (capacity words) (calls ++ reading m r ∷ []) ≡ meantMeters (capacity words) calls → Means words b (calls ++ reading m r ∷ [])
+  unfolding settingSet
+  kept meters = refused-means words b calls means (reading m r) refl mpans-same meters
+
+  not-counted : (readingCallInRange m r && qualityAllowed r) ≡ false → Means words b (calls ++ reading m r ∷ [])
+  unfolding mpanRegistered
+  not-counted h = kept (meters-kept (capacity words) calls (reading m r) refl (λ k. reading-refused calls m r k h))
+
+  reading-out-of-range : readingCallInRange m r ≡ false → Means words (readingCall b m r .book) (calls ++ reading m r ∷ [])
+  unfolding readingCall readingCause outcome
+  reading-out-of-range h = rw (means .formed, h) (not-counted (rw h))
+
+  module _ (range : readingCallInRange m r ≡ true) where
+    quality-refused : qualityAllowed r ≡ false → Means words (readingCall b m r .book) (calls ++ reading m r ∷ [])
+    unfolding readingCall readingCause outcome
+    quality-refused h = rw (means .formed, range, h) (not-counted (rw (range, h)))
+
+    module _ (quality : qualityAllowed r ≡ true) where
+      meter-unknown : isKnown m (usedRows b) ≡ false → Means words (readingCall b m r .book) (calls ++ reading m r ∷ [])
+      unfolding readingCall readingCause outcome meantMeters
+      meter-unknown h =
+          let absent = sym (known-meant words b calls means m) ∙ h in
+          rw (means .formed, range, quality, h)
+          (kept (rw mpans-same (others-read calls m (meantMpans (capacity words) calls) absent r)))
+
+      module _ (known : isKnown m (usedRows b) ≡ true) where
+        registered : isRegistered m calls ≡ true
+        unfolding meantMpans
+        registered =
+            registered-in m calls
+            ∙ sym (in-different m (gather mpanRegistered calls))
+            ∙ in-take (capacity words) m _ (sym (known-meant words b calls means m) ∙ known)
+
+        in-range : readingInRange r ≡ true
+        in-range = and-eq-true-iff (isMpan m) (readingInRange r) .0 range .1
+
+        -- the issue of the reading that the list means for the meter, and of the one read
+        held : issueHeld m (usedRows b) ≡ issueOf (newestReading (countedReadings calls m))
+        held = issue-meant words b calls means m known
+
+        issue-not-above : leb (r .issue) (issueHeld m (usedRows b)) ≡ true → Means words (readingCall b m r .book) (calls ++ reading m r ∷ [])
+        unfolding readingCall readingCause outcome mpanRegistered meantMeter
+        issue-not-above h =
+            let newest = newestReading (countedReadings calls m) in
+            let not-above : issueOf (readingWord r) ≤ issueOf newest = rw (issue-kept r in-range, ← held) (leb-true (r .issue) (issueHeld m (usedRows b)) h) in
+            let same : (k : ℕ) → meantMeter (calls ++ reading m r ∷ []) k ≡ meantMeter calls k =
+            λ k.
+            by-test (eqb k m)
+            (λ e. rw (eqb-true k m e) (read-itself calls m r range quality registered ∙ rw (earlier-kept newest (readingWord r) not-above)))
+            (λ e. read-other calls m r k (eqb-either-way m k ∙ e))
+            in
+            rw (means .formed, range, quality, known, h)
+            (kept (meters-kept (capacity words) calls (reading m r) refl same))
+
+        module _ (above : leb (r .issue) (issueHeld m (usedRows b)) ≡ false) where
+          -- the list gives that meter the reading, and leaves every other meter
+          read-meter : (k : ℕ) → meantMeter (calls ++ reading m r ∷ []) k ≡ atMeter m (readAs (readingWord r)) (meantMeter calls k)
+          unfolding meantMeter
+          read-meter k =
+              let newest = newestReading (countedReadings calls m) in
+              let higher : issueOf newest < issueOf (readingWord r) = rw (issue-kept r in-range, ← held) (leb-false (r .issue) (issueHeld m (usedRows b)) above) in
+              let change = readAs (readingWord r) in
+              by-test (eqb k m)
+              (λ e. rw (eqb-true k m e) (read-itself calls m r range quality registered ∙ rw (later-higher newest (readingWord r) higher) (sym (changed-here m change (meantMeter calls m) refl))))
+              (λ e. read-other calls m r k (eqb-either-way m k ∙ e) ∙ sym (changed-not m change (meantMeter calls k) (eqb-false k m e)))
+
+          read-meters : Permuted Row (withReading m (readingWord r) (usedRows b)) (meantMeters (capacity words) (calls ++ reading m r ∷ []))
+          unfolding meantMeters
+          read-meters =
+              let change = atMeter m (readAs (readingWord r)) in
+              rw (
+                reading-mapped 0 m (readingWord r) (usedRows b) (formed-book b (means .formed) .rows-formed),
+                mpans-same,
+                map-after change (meantMeter calls) (meantMeter (calls ++ reading m r ∷ [])) read-meter (meantMpans (capacity words) calls),
+              )
+              (mapped change (means .meters-meant))
+
+          reading-stored : Means words (readingCall b m r .book) (calls ++ reading m r ∷ [])
+          unfolding readingCall readingCause outcome settingSet
+          reading-stored =
+              let word = readingWord r in
+              let rows = withReading m word (usedRows b) in
+              let formed = reading-formed 0 m word (usedRows b) (formed-book b (means .formed) .rows-formed) (reading-word-well-formed r in-range quality) in
+              rw (means .formed, range, quality, known, above)
+              (rows-means words b calls means (reading m r) refl rows formed (rw (length-reading m word (usedRows b)) (rows-within words b calls means)) read-meters)
+
+  pub reading-step : Means words (readingCall b m r .book) (calls ++ reading m r ∷ [])
+  reading-step =
+      by-test (readingCallInRange m r)
+      (λ range.
+      by-test (qualityAllowed r)
+      (λ quality.
+      by-test (isKnown m (usedRows b))
+      (λ known.
+      by-test (leb (r .issue) (issueHeld m (usedRows b)))
+      (λ h. issue-not-above range quality known h)
+      (λ above. reading-stored range quality known above))
+      (λ unknown. meter-unknown range quality unknown))
+      (λ refused. quality-refused range refused))
+      reading-out-of-range
