@@ -1,4 +1,4 @@
--- What an accepted allocation tells: the Take is set, no shape lacks, W is above 0 and the tolerance kept.
+-- What an accepted allocation tells: the Take is set, no shape of a default is missing, W is above 0 and the tolerance is kept.
 use Prim.Native.Nat.{_≤_}
 use mathlib.Core.Path.{_≡_}
 use mathlib.Core.Bool.{true, false, not}
@@ -16,7 +16,8 @@ use Rattle.book.specs.Book.{Book, usedRows, wellFormed}
 use Rattle.book.specs.Causes.{accepted}
 use Rattle.book.proofs.Answers.{passed}
 use Rattle.allocation.specs.Energy.{anyLacksShape}
-use Rattle.allocation.specs.Correction.{UnitSums, units, allUnitSums, unallocatedOf, weightedTotal}
+use Rattle.allocation.specs.declared.UnitSums.{UnitSums}
+use Rattle.allocation.specs.Correction.{units, allUnitSums, unallocatedOf, weightedTotal}
 use Rattle.allocation.specs.Allocate.{exceedsTolerance, sumsCause, metersCause, allocationCause}
 
 -- of the sums of the units

@@ -13,7 +13,8 @@ use Rattle.book.specs.Rows.{Row}
 use Rattle.book.specs.declared.Settings.{Settings}
 use Rattle.allocation.specs.Energy.{sourceOf, lacksShapeFrom, anyLacksShape, Counts, countFor, addCounts, countsOf}
 use Rattle.allocation.specs.Cells.{inCell, energyOf, lossThousandths, isLossClass, consumptionCell, lossCell, cell, countFrom, cellsOf}
-use Rattle.allocation.specs.Correction.{UnitSums, units, netOf, weightedOf, unitSums, allUnitSums}
+use Rattle.allocation.specs.declared.UnitSums.{UnitSums}
+use Rattle.allocation.specs.Correction.{units, netOf, weightedOf, unitSums, allUnitSums}
 use Rattle.allocation.specs.Allocate.{metersCause, figuresOf}
 use Rattle.allocation.proofs.Permuted.{Permuted, none, keep, exchange, chain, mapped}
 

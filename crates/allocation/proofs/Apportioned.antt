@@ -14,7 +14,8 @@ use Rattle.integers.proofs.Order.{le-of-lt}
 use Rattle.integers.proofs.Size.{size-positive}
 use Rattle.integers.proofs.Floor.{floor-shift, fraction-shift}
 use Rattle.integers.proofs.FloorSum.{lacking-times, lacking-low, lacking-high}
-use Rattle.allocation.specs.Correction.{UnitSums, units, netIn, weightedIn, unallocatedOf, weightedTotal, shareNumerator, shareFloor, shareFraction}
+use Rattle.allocation.specs.declared.UnitSums.{UnitSums}
+use Rattle.allocation.specs.Correction.{units, netIn, weightedIn, unallocatedOf, weightedTotal, shareNumerator, shareFloor, shareFraction}
 use Rattle.allocation.specs.Volumes.{lackingWh}
 
 -- a share rounded down, and its fraction, by the quotient of U × a alone: n is a whole number

@@ -1,7 +1,7 @@
 -- The sizes that an allocation of a well-formed book can reach, as its code adds, multiplies and divides them.
-use Prim.Native.Nat.{ℕ, _*_, _≤_, _<_}
+use Prim.Native.Nat.{ℕ, _-_, _*_, _≤_, _<_}
 use mathlib.Core.Path.{_≡_, ap}
-use mathlib.Core.Bool.{Bool, true, false, and-eq-true-iff}
+use mathlib.Core.Bool.{Bool, true, false, cond, and-eq-true-iff}
 use mathlib.Core.List.{List, map, map-map}
 use native.Mathlib.Omega.{arith}
 use native.Mathlib.Nat.{le-trans, mul-le-mul-right, div-le-of-le-mul, div-lt-iff-lt-mul}
@@ -11,10 +11,12 @@ use lib.IntN.{ℤ, pos, negsuc, natAbs, _*ℤ_}
 use lib.Signed.{leZ}
 use borrow.Author.Tests.{leb-true, eqb-true, ltb-false}
 use Rattle.integers.specs.Sum.{sum}
+use Rattle.integers.specs.Rounding.{nearestWh}
 use Rattle.integers.specs.Quotient.{floorOf}
 use Rattle.integers.specs.Share.{ShareArguments}
 use Rattle.integers.proofs.Order.{le-true}
 use Rattle.integers.proofs.Size.{size-plus, size-minus, size-times, size-positive, within}
+use Rattle.integers.proofs.Nearest.{nearest-size}
 use Rattle.integers.proofs.Fit.{fit}
 use Rattle.book.specs.Limits.{takeLeast, takeMost}
 use Rattle.book.specs.declared.Settings.{Settings}
@@ -22,8 +24,8 @@ use Rattle.book.specs.Settings.{isWeight, takeFormed, allOf, settingsFormed}
 use Rattle.book.specs.Rows.{Row, capacity}
 use Rattle.book.specs.Book.{Book, usedRows, wellFormed}
 use Rattle.book.proofs.RowsOf.{length-rows}
-use Rattle.allocation.specs.Cells.{consumptionCell, lossCell, countFrom, cellsOf}
-use Rattle.allocation.specs.Correction.{units, unitSums, allUnitSums, netIn, weightedIn, unallocatedOf, weightedTotal, shareFloor}
+use Rattle.allocation.specs.Cells.{isLossClass, consumptionCell, lossCell, cell, countFrom, cellsOf}
+use Rattle.allocation.specs.Correction.{units, netOf, weightedOf, unitSums, allUnitSums, netIn, weightedIn, unallocatedOf, weightedTotal, shareFloor}
 use Rattle.allocation.specs.Allocate.{exceedsTolerance}
 use Rattle.allocation.proofs.Accepted.{SumsAccepted}
 use Rattle.allocation.proofs.Apportioned.{floorsOf, share-split}
@@ -62,7 +64,7 @@ book-limited b h =
       take-wh = take-most (b .settings .«take_set») (b .settings .«take_wh») (settings .1);
     }
 
--- the first of the meters are
+-- and the first of its meters, which a loop has gone through
 pub limited-first : {s : Settings} {meters : List Row} → Limited s meters → (k : ℕ) → Limited s (take k meters)
 limited-first {s} {meters} l k =
     record {
@@ -73,7 +75,7 @@ limited-first {s} {meters} l k =
       take-wh = l .take-wh;
     }
 
--- a quotient rounded down is no larger than d goes into a bound
+-- a number within m times d, divided by d and rounded down, is within m
 pub floor-most : (x : ℤ) (d m : ℕ) → 0 < d → natAbs x ≤ m * d → natAbs (floorOf x d) ≤ m
 unfolding floorOf
 floor-most (pos n) d m p h = div-le-of-le-mul d (omega arith)
@@ -87,16 +89,34 @@ tolerance-size g u w h e = omega (arith, ltb-false (g * natAbs w) (natAbs u * 10
 quotient-most : (u a w : ℤ) → 0 < natAbs w → natAbs u ≤ natAbs w → natAbs (floorOf (u *ℤ a) (natAbs w)) ≤ natAbs a
 quotient-most u a w p h = floor-most (u *ℤ a) (natAbs w) (natAbs a) p (omega (arith, size-times u a, mul-le-mul-right (natAbs a) h))
 
--- one cell, before it is rounded
-module _ (s : Settings) (meters : List Row) (l : Limited s meters) (unit class : ℕ) where
-  pub consumption-limited : natAbs (consumptionCell (s .shapes) meters unit class) ≤ 655360000000
-  consumption-limited = omega (arith, l .few, consumption-cell-most (s .shapes) unit class (l .rows))
-
-  pub loss-limited : natAbs (lossCell (s .shapes) meters unit class) ≤ 655360000000000
-  loss-limited = omega (arith, l .few, loss-cell-most (s .shapes) unit class (l .rows))
-
--- n and a of the units, alone and added up as far as any unit; U and W
 module _ (s : Settings) (meters : List Row) (l : Limited s meters) where
+  -- one cell, before it is rounded and after
+  pub consumption-limited : (unit class : ℕ) → natAbs (consumptionCell (s .shapes) meters unit class) ≤ 655360000000
+  consumption-limited unit class = omega (arith, l .few, consumption-cell-most (s .shapes) unit class (l .rows))
+
+  pub loss-limited : (unit class : ℕ) → natAbs (lossCell (s .shapes) meters unit class) ≤ 655360000000000
+  loss-limited unit class = omega (arith, l .few, loss-cell-most (s .shapes) unit class (l .rows))
+
+  pub cell-limited : (unit class : ℕ) → natAbs (cell (s .shapes) meters unit class) ≤ 655360000000
+  unfolding cell
+  cell-limited unit class = by (isLossClass class)
+    where
+      by : (t : Bool) → natAbs (cond t (nearestWh (lossCell (s .shapes) meters unit (class - 1))) (consumptionCell (s .shapes) meters unit class)) ≤ 655360000000
+      by true = omega (arith, nearest-size (lossCell (s .shapes) meters unit (class - 1)), loss-limited unit (class - 1))
+      by false = consumption-limited unit class
+
+  -- n and a of a unit, as far as any class
+  pub net-part-most : (unit k : ℕ) → natAbs (netOf 0 (take k (cellsOf (s .shapes) meters unit))) ≤ 1400000000000
+  net-part-most unit k =
+      let c = cellsOf (s .shapes) meters unit in
+      omega (arith, l .few, net-most 0 (take k c), sizes-take k c, cells-of-unit (s .shapes) (l .rows) unit)
+
+  pub weighted-part-most : (unit k : ℕ) → natAbs (weightedOf (take k (cellsOf (s .shapes) meters unit)) (s .weights)) ≤ 1400000000000000
+  weighted-part-most unit k =
+      let c = cellsOf (s .shapes) meters unit in
+      omega (arith, l .few, weighted-most (take k c) (s .weights) (l .weights), sizes-take k c, cells-of-unit (s .shapes) (l .rows) unit)
+
+  -- n and a of the units, alone and added up as far as any unit; U and W
   pub unit-net-most : (unit : ℕ) → natAbs (unitSums s meters unit .net) ≤ 1400000000000
   unfolding unitSums
   unit-net-most unit = omega (arith, l .few, net-most 0 (cellsOf (s .shapes) meters unit), cells-of-unit (s .shapes) (l .rows) unit)

@@ -9,7 +9,8 @@ use Rattle.book.specs.Limits.{classes}
 use Rattle.book.specs.declared.Settings.{Settings}
 use Rattle.book.specs.Rows.{Row}
 use Rattle.allocation.specs.Cells.{countFrom, cell, cellsOf}
-use Rattle.allocation.specs.Correction.{UnitSums, units, unitSums, allUnitSums}
+use Rattle.allocation.specs.declared.UnitSums.{UnitSums}
+use Rattle.allocation.specs.Correction.{units, unitSums, allUnitSums}
 
 pub count-length : (k n : ℕ) → length (countFrom k n) ≡ n
 unfolding countFrom

@@ -19,7 +19,3 @@ module _ {A : Type 0} {P : A → Type 0} where
   each-take none (suc n) = none
   each-take (also p e) zero = none
   each-take (also p e) (suc n) = also p (each-take e n)
-
-  pub each-so : {Q : A → Type 0} → ((x : A) → P x → Q x) → {xs : List A} → Each P xs → Each Q xs
-  each-so f none = none
-  each-so f (also {x = x} p e) = also (f x p) (each-so f e)

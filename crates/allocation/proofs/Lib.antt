@@ -1,4 +1,4 @@
--- Laws of an allocation's definitions.
+-- Laws of an allocation's definitions, for this crate's functions and for the crates above.
 pub mod Permuted
 pub mod Counting
 pub mod CountWhere
@@ -18,3 +18,13 @@ pub mod Totals
 pub mod CellBounds
 pub mod SumBounds
 pub mod Bounds
+pub mod Quotients
+pub mod Filled
+pub mod RunningSums
+pub mod HandedOut
+pub mod Tables
+pub mod MeterBounds
+pub mod OneMore
+pub mod Apportion
+pub mod Steps
+pub mod Ways

@@ -10,7 +10,8 @@ use lib.Signed.{_<ℤ_}
 use Rattle.integers.specs.Sum.{sum}
 use Rattle.book.specs.Book.{Book, usedRows}
 use Rattle.book.specs.Causes.{accepted}
-use Rattle.allocation.specs.Correction.{UnitSums, units, allUnitSums, weightedTotal}
+use Rattle.allocation.specs.declared.UnitSums.{UnitSums}
+use Rattle.allocation.specs.Correction.{units, allUnitSums, weightedTotal}
 use Rattle.allocation.specs.Volumes.{volumesOf}
 use Rattle.allocation.specs.Allocate.{allocationCause, Allocation, figuresOf, withVolumes, allocationOutcome, allocateCall}
 use Rattle.allocation.proofs.Counting.{sums-length}

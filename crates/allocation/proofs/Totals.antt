@@ -5,8 +5,8 @@ use mathlib.Core.Bool.{Bool, true, false, cond}
 use mathlib.Core.List.{List, [], _∷_, map}
 use native.Mathlib.Omega.{arith}
 use lib.Dec.{eqb}
-use lib.ListN.{getD, take}
-use lib.IntN.{ℤ, pos, natAbs}
+use lib.ListN.{take}
+use lib.IntN.{ℤ, natAbs}
 use borrow.Author.Tests.{eqb-true, ne-eqb}
 use Rattle.integers.specs.Sum.{sum}
 use Rattle.integers.proofs.Size.{size-plus}
@@ -74,12 +74,6 @@ unfolding sizes
 sizes-take zero xs = omega arith
 sizes-take (suc n) [] = omega arith
 sizes-take (suc n) (x ∷ xs) = omega (arith, sizes-take n xs)
-
-pub sizes-at : (xs : List ℤ) (i : ℕ) → natAbs (getD xs i (pos 0)) ≤ sizes xs
-unfolding sizes
-sizes-at [] i = omega arith
-sizes-at (x ∷ xs) zero = omega arith
-sizes-at (x ∷ xs) (suc i) = omega (arith, sizes-at xs i)
 
 pub sizes-total : (f : ℕ → ℤ) (j n : ℕ) → sizes (map f (countFrom j n)) ≡ total (λ i. natAbs (f i)) j n
 unfolding sizes total countFrom

@@ -18,7 +18,8 @@ use Rattle.integers.proofs.Sum.{entry-map}
 use Rattle.integers.proofs.Floor.{fraction-below, above-floor, below-next}
 use Rattle.book.specs.declared.Settings.{Settings}
 use Rattle.book.specs.Rows.{Row}
-use Rattle.allocation.specs.Correction.{UnitSums, units, allUnitSums, unallocatedOf, weightedTotal, shareNumerator, shareFloor, shareFraction}
+use Rattle.allocation.specs.declared.UnitSums.{UnitSums}
+use Rattle.allocation.specs.Correction.{units, allUnitSums, unallocatedOf, weightedTotal, shareNumerator, shareFloor, shareFraction}
 use Rattle.allocation.specs.Volumes.{volumesFrom, volumesOf}
 use Rattle.allocation.proofs.Counting.{sums-length}
 use Rattle.allocation.proofs.CountWhere.{At, here, later}
@@ -61,12 +62,12 @@ module _ (takeWh : ℤ) (sums : List UnitSums) where
   pub fractions-length : length (fractionsOf takeWh sums) ≡ length sums
   fractions-length = length-map sums (shareFraction (unallocatedOf takeWh sums) (weightedTotal sums))
 
-  pub as-many : length (floorsOf takeWh sums) ≡ length (fractionsOf takeWh sums)
-  as-many = length-map sums (shareFloor (unallocatedOf takeWh sums) (weightedTotal sums)) ∙ sym fractions-length
+  pub as-many-floors : length (floorsOf takeWh sums) ≡ length (fractionsOf takeWh sums)
+  as-many-floors = length-map sums (shareFloor (unallocatedOf takeWh sums) (weightedTotal sums)) ∙ sym fractions-length
 
   pub volumes-length : length (volumesOf takeWh sums) ≡ length sums
   unfolding volumesOf volumesFrom
-  volumes-length = rounded-length (lackOf takeWh sums) (fractionsOf takeWh sums) 0 (floorsOf takeWh sums) (fractionsOf takeWh sums) as-many ∙ length-map sums _
+  volumes-length = rounded-length (lackOf takeWh sums) (fractionsOf takeWh sums) 0 (floorsOf takeWh sums) (fractionsOf takeWh sums) as-many-floors ∙ length-map sums _
 
   module _ (p : pos 0 <ℤ weightedTotal sums) where
     -- "the 32 volumes sum to the last accepted Take"
@@ -76,7 +77,7 @@ module _ (takeWh : ℤ) (sums : List UnitSums) where
         let fs = fractionsOf takeWh sums in
         let v = sum (floorsOf takeWh sums) in
         let n = lackOf takeWh sums in
-        rounded-sum n fs 0 (floorsOf takeWh sums) fs as-many
+        rounded-sum n fs 0 (floorsOf takeWh sums) fs as-many-floors
         ∙ ap (λ c. v +ℤ pos c) (ranks-exactly n 0 fs (omega (arith, lacking-fewer takeWh sums p (some-unit sums p), fractions-length)))
         ∙ omega (linear, lacking-is takeWh sums p, minus takeWh v, plus v (pos n))
 
@@ -126,10 +127,10 @@ module _ (takeWh : ℤ) (sums : List UnitSums) where
 
         by : (t : Bool) → ltb (rankOf fs i) n ≡ t → natAbs (getD (volumesOf takeWh sums) i (pos 0) *ℤ w -ℤ getD (numeratorsOf takeWh sums) i (pos 0)) < natAbs w
         by true t =
-            rw (volume-served (floorsOf takeWh sums) fs as-many n i k (ltb-true _ n t), floor-is, share-is)
+            rw (volume-served (floorsOf takeWh sums) fs as-many-floors n i k (ltb-true _ n t), floor-is, share-is)
             (next-distance x w p (above-zero (ltb-true _ n t)))
         by false t =
-            rw (volume-unserved (floorsOf takeWh sums) fs as-many n i k (ltb-false _ n t), floor-is, share-is)
+            rw (volume-unserved (floorsOf takeWh sums) fs as-many-floors n i k (ltb-false _ n t), floor-is, share-is)
             (floor-distance x w p)
 
 pub volumes-of-all : (takeWh : ℤ) (s : Settings) (meters : List Row) → length (volumesOf takeWh (allUnitSums s meters)) ≡ units

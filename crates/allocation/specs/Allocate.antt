@@ -12,7 +12,8 @@ use Rattle.book.specs.Book.{Book, usedRows, wellFormed}
 use Rattle.book.specs.Causes.{refuse, accepted, bookIllFormed, volumesShort, takeUnset, shapeOfDefaultMissing, weightedBelowOne, toleranceExceeded}
 use Rattle.allocation.specs.declared.Allocated.{Allocated}
 use Rattle.allocation.specs.Energy.{Counts, countsOf, noCounts, anyLacksShape}
-use Rattle.allocation.specs.Correction.{UnitSums, units, allUnitSums, unallocatedOf, weightedTotal}
+use Rattle.allocation.specs.declared.UnitSums.{UnitSums}
+use Rattle.allocation.specs.Correction.{units, allUnitSums, unallocatedOf, weightedTotal}
 use Rattle.allocation.specs.Volumes.{volumesOf}
 
 -- "size of U × 1,000,000 above g × W"

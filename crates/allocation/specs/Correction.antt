@@ -8,6 +8,7 @@ use Rattle.integers.specs.Sum.{sum}
 use Rattle.integers.specs.Quotient.{floorOf, fractionOf}
 use Rattle.book.specs.declared.Settings.{Settings}
 use Rattle.book.specs.Rows.{Row}
+use Rattle.allocation.specs.declared.UnitSums.{UnitSums}
 use Rattle.allocation.specs.Cells.{cellsOf, countFrom}
 
 -- "corrects the suppliers' 32 BM Units"
@@ -30,10 +31,6 @@ weightedOf (c ∷ cells) [] = pos 0
 weightedOf (c ∷ cells) (w ∷ weights) = c *ℤ pos w +ℤ weightedOf cells weights
 
 -- a unit's n and a
-pub record UnitSums : Type 0 where
-  pub net : ℤ
-  pub weighted : ℤ
-
 unfoldable pub unitSums : Settings → List Row → ℕ → UnitSums
 unitSums s meters unit =
     record {

@@ -4,3 +4,4 @@ pub mod Cells
 pub mod Correction
 pub mod Volumes
 pub mod Allocate
+pub mod Contracts

@@ -5,7 +5,8 @@ use mathlib.Core.List.{List, [], _∷_, map}
 use lib.Dec.{ltb, eqb}
 use lib.IntN.{ℤ, pos, natAbs, _+ℤ_, _-ℤ_}
 use Rattle.integers.specs.Sum.{sum}
-use Rattle.allocation.specs.Correction.{UnitSums, unallocatedOf, weightedTotal, shareFloor, shareFraction}
+use Rattle.allocation.specs.declared.UnitSums.{UnitSums}
+use Rattle.allocation.specs.Correction.{unallocatedOf, weightedTotal, shareFloor, shareFraction}
 
 -- "to the units with the largest fraction, equal fractions to the lower unit number": whether unit j, of fraction g, comes before unit i, of fraction f
 abbrev pub comesBefore : ℕ → ℕ → ℕ → ℕ → Bool

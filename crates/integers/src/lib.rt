@@ -45,7 +45,7 @@ struct Division {
 }
 
 // The size of x. That of the least i64 is no i64, so 1 is added after the cast.
-fn magnitude(x: i64) -> u64
+pub fn magnitude(x: i64) -> u64
     ensures { λ r. ⌜ r ≡ natAbs x ⌝ }
 {
     if x < 0 { (-1 - x) as u64 + 1 } else { x as u64 }

@@ -17,7 +17,8 @@ use Rattle.book.specs.Calls.{Call, bookAfter}
 use Rattle.book.proofs.Answers.{passed}
 use Rattle.allocation.specs.declared.Allocated.{Allocated}
 use Rattle.allocation.specs.Energy.{Counts, countsOf}
-use Rattle.allocation.specs.Correction.{UnitSums, units, allUnitSums, weightedTotal}
+use Rattle.allocation.specs.declared.UnitSums.{UnitSums}
+use Rattle.allocation.specs.Correction.{units, allUnitSums, weightedTotal}
 use Rattle.allocation.specs.Volumes.{volumesOf}
 use Rattle.allocation.specs.Allocate.{metersCause, allocationCause, Allocation, figuresOf, allocateCall}
 use Rattle.allocation.proofs.Permuted.{Permuted, back, chain}

@@ -14,7 +14,8 @@ use Rattle.book.specs.Book.{freshBook}
 use Rattle.book.specs.Causes.{accepted}
 use Rattle.book.specs.Calls.{Call, register, reading, setting, bookAfter}
 use Rattle.allocation.specs.declared.Allocated.{Allocated}
-use Rattle.allocation.specs.Correction.{UnitSums, units, allUnitSums, unallocatedOf, weightedTotal, shareNumerator}
+use Rattle.allocation.specs.declared.UnitSums.{UnitSums}
+use Rattle.allocation.specs.Correction.{units, allUnitSums, unallocatedOf, weightedTotal, shareNumerator}
 use Rattle.allocation.specs.Volumes.{volumesOf}
 use Rattle.allocation.specs.Allocate.{Allocation, allocateCall, figuresOf}
 use Rattle.settlement.specs.Meaning.{only, gather, meantTake, meantMpans, meantMeters, meantSettings, countedReadings}

@@ -1,0 +1,156 @@
+-- One more meter after the others: what it adds to the cells, the four counts and the missing shapes.
+use Prim.Native.Nat.{ℕ, suc, _+_, _*_, _-_, _%_, _≤_, _<_}
+use mathlib.Core.Path.{_≡_, refl, sym, _∙_, ap}
+use mathlib.Core.Bool.{Bool, true, false, _&&_, _||_, cond, or-false, or-assoc}
+use mathlib.Core.List.{List, [], _∷_, _++_, map, map-append}
+use native.Mathlib.Nat.{add-zero}
+use native.Mathlib.Numerals.{add-one}
+use native.Mathlib.Omega.{arith}
+use borrow.Author.Tests.{eqb-true, eqb-false, eq-eqb, ne-eqb}
+use lib.Dec.{eqb}
+use lib.IntN.{ℤ, pos, _+ℤ_, +ℤ-idl, +ℤ-idr, +ℤ-assoc}
+use lib.ListN.{length, getD, set}
+use lib.Seq.{take-suc}
+use Rattle.integers.specs.Sum.{sum}
+use Rattle.integers.proofs.Sum.{sum-append}
+use Rattle.words.specs.Registration.{unitOf}
+use Rattle.words.proofs.RegistrationWord.{unit-bound}
+use Rattle.book.specs.Limits.{classes}
+use Rattle.book.specs.Rows.{Row, firstRow, rowsOf}
+use Rattle.book.proofs.RowsOf.{rowAt, length-rows, take-rows, row-of}
+use Rattle.allocation.specs.Energy.{Source, actualReading, estimatedReading, shapeDefault, noEnergy, sourceOf, lacksShapeFrom, anyLacksShape, Counts, countFor, addCounts, countsOf}
+use Rattle.allocation.specs.Cells.{consumptionClass, isLossClass, inCell, energyOf, lossThousandths, consumptionCell, lossCell}
+use Rattle.allocation.specs.Correction.{units}
+use Rattle.allocation.specs.Contracts.{sourceNumber, countList, rawCell, tableOf, added}
+use Rattle.allocation.proofs.Tables.{tables-agree, added-table, amountAt}
+use Rattle.allocation.proofs.MeterBounds.{class-even}
+
+-- the first i + 1 rows of a slice
+pub rows-more : (i : ℕ) (words : List ℕ) → rowsOf (i + 1) words ≡ rowsOf i words ++ (rowAt words (3 * i) ∷ [])
+rows-more i words =
+    rw add-one
+    (sym (take-rows (suc i) (suc i) words (omega arith))
+    ∙ take-suc (rowsOf (suc i) words) i (firstRow words) (rw length-rows (omega arith))
+    ∙ rw (take-rows i (suc i) words (omega arith), row-of (suc i) i words (firstRow words) (omega arith)))
+
+-- cells
+
+sum-more : (meters : List Row) (r : Row) (unit class : ℕ) (amount : Row → ℤ) → sum (map (inCell unit class amount) (meters ++ (r ∷ []))) ≡ sum (map (inCell unit class amount) meters) +ℤ inCell unit class amount r
+unfolding sum
+sum-more meters r unit class amount = rw (map-append, sum-append, +ℤ-idr)
+
+cond-plus : (t : Bool) (a b c d : ℤ) → cond t (a +ℤ b) (c +ℤ d) ≡ cond t a c +ℤ cond t b d
+cond-plus true a b c d = refl
+cond-plus false a b c d = refl
+
+-- what a meter adds to a raw cell
+unfoldable pub amountIn : List ℕ → Row → ℕ → ℕ → ℤ
+amountIn shapes r unit class =
+    cond (isLossClass class) (inCell unit (class - 1) (lossThousandths shapes) r) (inCell unit class (energyOf shapes) r)
+
+pub raw-cell-more : (shapes : List ℕ) (meters : List Row) (r : Row) (unit class : ℕ) → rawCell shapes (meters ++ (r ∷ [])) unit class ≡ rawCell shapes meters unit class +ℤ amountIn shapes r unit class
+unfolding rawCell consumptionCell lossCell amountIn
+raw-cell-more shapes meters r unit class =
+    rw (sum-more meters r unit (class - 1) (lossThousandths shapes), sum-more meters r unit class (energyOf shapes))
+    (cond-plus (isLossClass class) _ _ _ _)
+
+-- two tests of numbers that hold together
+test-same : (a b c d : ℕ) → (a ≡ b → c ≡ d) → (c ≡ d → a ≡ b) → eqb a b ≡ eqb c d
+test-same a b c d f g = by (eqb a b) (eqb-true a b) (eqb-false a b)
+  where
+    by : (t : Bool) → (t ≡ true → a ≡ b) → (t ≡ false → a ≡ b → ⊥) → t ≡ eqb c d
+    by true y n = sym (eq-eqb c d (f (y refl)))
+    by false y n = sym (ne-eqb c d (λ e. n refl (g e)))
+
+-- an even class k and the class k + 1 after it: at any class j, by whether j is odd
+two-classes : (here : Bool) (k j : ℕ) (e l : ℤ) → k % 2 ≡ 0 → cond (here && eqb k j) e (pos 0) +ℤ cond (here && eqb (k + 1) j) l (pos 0) ≡ cond (isLossClass j) (cond (here && eqb k (j - 1)) l (pos 0)) (cond (here && eqb k j) e (pos 0))
+two-classes false k j e l h = none (isLossClass j)
+  where
+    none : (t : Bool) → pos 0 ≡ cond t (pos 0) (pos 0)
+    none true = refl
+    none false = refl
+two-classes true k j e l h = by (isLossClass j) (eqb-true (j % 2) 1) (eqb-false (j % 2) 1)
+  where
+    by : (loss : Bool) → (loss ≡ true → j % 2 ≡ 1) → (loss ≡ false → j % 2 ≡ 1 → ⊥) → cond (eqb k j) e (pos 0) +ℤ cond (eqb (k + 1) j) l (pos 0) ≡ cond loss (cond (eqb k (j - 1)) l (pos 0)) (cond (eqb k j) e (pos 0))
+    by true y n =
+        let odd : j % 2 ≡ 1 = y refl in
+        rw (ne-eqb k j (λ q. omega arith), test-same (k + 1) j k (j - 1) (λ q. omega arith) (λ q. omega arith)) (+ℤ-idl _)
+    by false y n =
+        rw (ne-eqb (k + 1) j (λ q. n refl (omega arith))) (+ℤ-idr _)
+
+module _ (shapes : List ℕ) (meters : List Row) (r : Row) where
+  -- it is the energy at the meter's class, and the loss at the class after it
+  amounts : (unit class : ℕ) → amountAt (unitOf (r .registration)) (consumptionClass r) (energyOf shapes r) unit class +ℤ amountAt (unitOf (r .registration)) (consumptionClass r + 1) (lossThousandths shapes r) unit class ≡ amountIn shapes r unit class
+  unfolding amountIn inCell
+  amounts unit class = two-classes (eqb (unitOf (r .registration)) unit) (consumptionClass r) class (energyOf shapes r) (lossThousandths shapes r) (class-even r)
+
+  pub table-more : consumptionClass r + 1 < classes → added (added (tableOf (rawCell shapes meters)) (unitOf (r .registration)) (consumptionClass r) (energyOf shapes r)) (unitOf (r .registration)) (consumptionClass r + 1) (lossThousandths shapes r) ≡ tableOf (rawCell shapes (meters ++ (r ∷ [])))
+  table-more k =
+      let u = unitOf (r .registration) in
+      let h : u < units = omega (arith, unit-bound (r .registration)) in
+      let f = rawCell shapes meters in
+      let e = energyOf shapes r in
+      let l = lossThousandths shapes r in
+      let c = consumptionClass r in
+      ap (λ (t : List (List ℤ)). added t u (c + 1) l) (added-table f u c e h (omega arith))
+      ∙ added-table (λ v j. f v j +ℤ amountAt u c e v j) u (c + 1) l h k
+      ∙ tables-agree (λ v j. f v j +ℤ amountAt u c e v j +ℤ amountAt u (c + 1) l v j) (rawCell shapes (meters ++ (r ∷ [])))
+      (λ v j h′ k′. +ℤ-assoc (f v j) (amountAt u c e v j) (amountAt u (c + 1) l v j) ∙ ap (λ z. f v j +ℤ z) (amounts v j) ∙ sym (raw-cell-more shapes meters r v j))
+
+-- missing shapes
+
+pub lacks-more : (shapes : List ℕ) (meters : List Row) (r : Row) → anyLacksShape shapes (meters ++ (r ∷ [])) ≡ (anyLacksShape shapes meters || lacksShapeFrom shapes r (sourceOf r))
+unfolding anyLacksShape
+lacks-more shapes [] r = or-false _
+lacks-more shapes (m ∷ meters) r = rw (lacks-more shapes meters r)
+    (sym (or-assoc (lacksShapeFrom shapes m (sourceOf m)) (anyLacksShape shapes meters) (lacksShapeFrom shapes r (sourceOf r))))
+
+-- counts
+
+counts-eq : (x y : Counts) → x .actual ≡ y .actual → x .estimated ≡ y .estimated → x .defaulted ≡ y .defaulted → x .idle ≡ y .idle → x ≡ y
+counts-eq x y a e d l = λ i. record { actual = a i; estimated = e i; defaulted = d i; idle = l i }
+
+pub counts-more : (meters : List Row) (r : Row) → countsOf (meters ++ (r ∷ [])) ≡ addCounts (countsOf meters) (countFor (sourceOf r))
+unfolding countsOf
+counts-more [] r = counts-eq _ _ (omega arith) (omega arith) (omega arith) (omega arith)
+counts-more (m ∷ meters) r = rw (counts-more meters r) (counts-eq _ _ (omega arith) (omega arith) (omega arith) (omega arith))
+
+-- the four counts together
+abbrev pub totalOf : Counts → ℕ
+totalOf x = x .actual + x .estimated + x .defaulted + x .idle
+
+one-counted : (s : Source) (x : Counts) → totalOf (addCounts (countFor s) x) ≡ suc (totalOf x)
+unfolding countFor
+one-counted actualReading x = omega arith
+one-counted estimatedReading x = omega arith
+one-counted shapeDefault x = omega arith
+one-counted noEnergy x = omega arith
+
+-- each meter counts once
+pub counts-total : (meters : List Row) → totalOf (countsOf meters) ≡ length meters
+unfolding countsOf
+counts-total [] = refl
+counts-total (r ∷ meters) = one-counted (sourceOf r) (countsOf meters) ∙ ap suc (counts-total meters)
+
+pub number-bound : (s : Source) → sourceNumber s < 4
+number-bound actualReading = omega arith
+number-bound estimatedReading = omega arith
+number-bound shapeDefault = omega arith
+number-bound noEnergy = omega arith
+
+pub count-bound : (meters : List Row) (s : Source) → getD (countList (countsOf meters)) (sourceNumber s) 0 ≤ length meters
+count-bound meters actualReading = omega (arith, counts-total meters)
+count-bound meters estimatedReading = omega (arith, counts-total meters)
+count-bound meters shapeDefault = omega (arith, counts-total meters)
+count-bound meters noEnergy = omega (arith, counts-total meters)
+
+one-stored : (x : Counts) (s : Source) → countList (addCounts x (countFor s)) ≡ set (countList x) (sourceNumber s) (getD (countList x) (sourceNumber s) 0 + 1)
+unfolding countFor
+one-stored x actualReading = simp add-zero
+one-stored x estimatedReading = simp add-zero
+one-stored x shapeDefault = simp add-zero
+one-stored x noEnergy = simp add-zero
+
+-- as the list of four numbers: the count of the meter's source is one more
+pub counts-stored : (meters : List Row) (r : Row) → let counts = countList (countsOf meters) in let from = sourceNumber (sourceOf r) in countList (countsOf (meters ++ (r ∷ []))) ≡ set counts from (getD counts from 0 + 1)
+counts-stored meters r = rw (counts-more meters r) (one-stored (countsOf meters) (sourceOf r))

@@ -1,0 +1,242 @@
+-- `gather` meets its contract: after i rows it has gathered what the first i rows give, and a turn is one meter more.
+use Prim.Native.Nat.{ℕ, _+_, _*_, _-_, _≤_, _<_}
+use mathlib.Core.Path.{_≡_, refl, sym, _∙_, ap}
+use mathlib.Core.Bool.{Bool, true, false, _||_, cond}
+use mathlib.Core.List.{List, []}
+use native.Mathlib.Omega.{arith}
+use borrow.Author.Needs.{needs}
+use Rattle.integers.specs.Sum.{sum}
+use lib.IntN.{ℤ, pos, natAbs, _-ℤ_, _*ℤ_}
+use lib.ListN.{getD, set}
+use Rattle.words.specs.Registration.{llfOf, unitOf}
+use Rattle.words.proofs.RegistrationWord.{well-formed-bounds, unit-bound}
+use Rattle.book.specs.Limits.{classes}
+use Rattle.book.specs.Rows.{Row, rowsOf, rowsFormed}
+use Rattle.book.specs.Contracts.{row}
+use Rattle.book.proofs.RowsOf.{rowAt, length-rows, take-rows, row-of}
+use Rattle.book.proofs.Rising.{Words}
+use Rattle.allocation.specs.declared.Use.{Use}
+use Rattle.allocation.specs.Energy.{Source, actualReading, estimatedReading, shapeDefault, noEnergy, sourceOf, energyFrom, energyWh, lacksShapeFrom, anyLacksShape, countsOf}
+use Rattle.allocation.specs.Cells.{consumptionClass, isLossClass, consumptionCell, lossCell}
+use Rattle.allocation.specs.Correction.{units}
+use Rattle.allocation.specs.Contracts.{sourceNumber, useOf, added, emptyCell, rawCell, AddArguments, GatherArguments, Gathered}
+use Rattle.allocation.proofs.Tables.{entryOf, TableSized, table-entry, table-sized, tables-agree}
+use Rattle.allocation.proofs.MeterBounds.{formed-row, formed-take, energy-bound, class-bound, raw-cell-bound}
+use Rattle.allocation.proofs.OneMore.{rows-more, table-more, lacks-more, counts-stored, number-bound, count-bound}
+use Rattle.allocation.proofs.cells.gather.Statement.{statement}
+use Rattle.allocation.proofs.cells.gather.Tie as tie
+
+either-empty : (loss : Bool) → pos 0 ≡ cond loss (pos 0) (pos 0)
+either-empty true = refl
+either-empty false = refl
+
+-- before the first turn
+none-gathered : (words : List ℕ) (n : ℕ) (shapes : List ℕ) (cells : List (List ℤ)) (counts : List ℕ) → GatherArguments words n shapes cells counts → Gathered shapes (rowsOf 0 words) cells counts false
+unfolding rowsOf rawCell consumptionCell lossCell sum countsOf anyLacksShape
+none-gathered words n shapes cells counts ok =
+    record {
+      cells-are = ok .cells-empty ∙ tables-agree emptyCell (rawCell shapes []) (λ u k h l. either-empty (isLossClass k));
+      counts-are = ok .counts-empty;
+      lacks-is = refl;
+    }
+
+-- the MPAN plays no part in what a meter comes to
+module _ (shapes : List ℕ) (m m′ registration reading : ℕ) where
+  energy-same : (s : Source) → energyFrom shapes (row m registration reading) s ≡ energyFrom shapes (row m′ registration reading) s
+  unfolding energyFrom
+  energy-same actualReading = refl
+  energy-same estimatedReading = refl
+  energy-same shapeDefault = refl
+  energy-same noEnergy = refl
+
+  lacks-same : (s : Source) → lacksShapeFrom shapes (row m registration reading) s ≡ lacksShapeFrom shapes (row m′ registration reading) s
+  unfolding lacksShapeFrom
+  lacks-same actualReading = refl
+  lacks-same estimatedReading = refl
+  lacks-same shapeDefault = refl
+  lacks-same noEnergy = refl
+
+-- a turn: row i, of which nothing but the registration and the reading is used
+module _ (words : List ℕ) (n : ℕ) (shapes : List ℕ) {start : List (List ℤ)} {zeros : List ℕ} (ok : GatherArguments words n shapes start zeros) (i : ℕ) (h : i < n) {cells : List (List ℤ)} {counts : List ℕ} {lacks : Bool} (got : Gathered shapes (rowsOf i words) cells counts lacks) where
+  abbrev this : Row
+  this = rowAt words (3 * i)
+
+  abbrev meter : Row
+  meter = row 0 (this .registration) (this .reading)
+
+  this-words : Words this
+  this-words = rw (row-of n i words this h) at (formed-row 0 (rowsOf n words) i this (ok .rows-formed) (rw length-rows h))
+
+  before-formed : rowsFormed 0 (rowsOf i words) ≡ true
+  before-formed = rw (take-rows i n words (omega arith)) at (formed-take i 0 (rowsOf n words) (ok .rows-formed))
+
+  same-use : useOf shapes meter ≡ useOf shapes this
+  unfolding sourceOf energyWh
+  same-use =
+      λ j.
+      record {
+        source = sourceNumber (sourceOf this);
+        wh = energy-same shapes 0 (this .mpan) (this .registration) (this .reading) (sourceOf this) j;
+        lacks = lacks-same shapes 0 (this .mpan) (this .registration) (this .reading) (sourceOf this) j;
+      }
+
+  same-class : consumptionClass meter ≡ consumptionClass this
+  unfolding consumptionClass sourceOf
+  same-class = refl
+
+  cell-bound : (unit class : ℕ) → unit < units → class < classes → natAbs (entryOf cells unit class) ≤ 655360000000000
+  cell-bound unit class u k =
+      rw (got .cells-are, table-entry (rawCell shapes (rowsOf i words)) unit class u k)
+      (omega (arith, length-rows i words, raw-cell-bound shapes (ok .shapes-formed) 0 (rowsOf i words) before-formed unit class))
+
+  cells-sized : TableSized cells
+  cells-sized = rw (got .cells-are) (table-sized (rawCell shapes (rowsOf i words)))
+
+  turn-asks : {unit class llf : ℕ} {used : Use} → unit ≡ unitOf (this .registration) → used ≡ useOf shapes meter → class ≡ consumptionClass meter → llf ≡ llfOf (this .registration) → AddArguments cells unit class (used .wh) llf
+  turn-asks {unit} {class} {llf} {used} a b d e =
+      let u : unit < units = omega (arith, unit-bound (this .registration)) in
+      record {
+        unit-bound = u;
+        class-bound = omega (arith, same-class, class-bound this (this-words .registration-formed));
+        rows-long = cells-sized .rows-long;
+        row-long = cells-sized .row-long unit u;
+        wh-bound = rw (b ∙ same-use) (energy-bound shapes (ok .shapes-formed) this this-words);
+        llf-bound = omega (arith, well-formed-bounds (this .registration) (this-words .registration-formed));
+        cells-bound = λ k l. cell-bound unit k u l;
+      }
+
+  count-bounds : {used : Use} → used ≡ useOf shapes meter → (used .source < 4) × (getD counts (used .source) 0 ≤ i)
+  count-bounds b =
+      rw (b ∙ same-use, got .counts-are)
+      (number-bound (sourceOf this), rw length-rows at (count-bound (rowsOf i words) (sourceOf this)))
+
+  turn-gives : {unit class llf : ℕ} {used : Use} {after : List (List ℤ)} → unit ≡ unitOf (this .registration) → used ≡ useOf shapes meter → class ≡ consumptionClass meter → llf ≡ llfOf (this .registration)
+      → after ≡ added (added cells unit class (pos (used .wh))) unit (class + 1) ((pos llf -ℤ pos 1000) *ℤ pos (used .wh))
+      → Gathered shapes (rowsOf (i + 1) words) after (set counts (used .source) (getD counts (used .source) 0 + 1)) (lacks || used .lacks)
+  turn-gives {unit} {class} {llf} {used} {after} a b d e stored =
+      rw (rows-more i words)
+      (record {
+        cells-are = stored ∙ rw (a, b ∙ same-use, d ∙ same-class, e, got .cells-are) (table-more shapes (rowsOf i words) this (omega (arith, class-bound this (this-words .registration-formed))));
+        counts-are = rw (b ∙ same-use, got .counts-are) (sym (counts-stored (rowsOf i words) this));
+        lacks-is = rw (b ∙ same-use, got .lacks-is) (sym (lacks-more shapes (rowsOf i words) this));
+      })
+
+abbrev Inv-loop : tie.InvT-loop
+Inv-loop rows n shapes cells₀ counts₀ lacks₀ i₀ cells counts lacks i = (i ≤ n) × Gathered shapes (rowsOf i rows) cells counts lacks
+
+abbrev μ-loop : tie.MeasureT-loop
+μ-loop rows n shapes cells₀ counts₀ lacks₀ i₀ cells counts lacks i = n - i
+
+loop-holds : tie.Need-loop-holds Inv-loop μ-loop
+loop-holds c = (omega arith, none-gathered _ _ _ _ _ (c .before .pre))
+
+mul-registration : tie.Need-mul-registration Inv-loop μ-loop
+mul-registration c = omega arith
+
+add-registration : tie.Need-add-registration Inv-loop μ-loop
+add-registration c = omega arith
+
+mul-registration-2 : tie.Need-mul-registration-2 Inv-loop μ-loop
+mul-registration-2 c = omega arith
+
+shared-slice-read-registration : tie.Need-shared-slice-read-registration Inv-loop μ-loop
+shared-slice-read-registration c = omega arith
+
+mul-reading : tie.Need-mul-reading Inv-loop μ-loop
+mul-reading c = omega arith
+
+add-reading : tie.Need-add-reading Inv-loop μ-loop
+add-reading c = omega arith
+
+mul-reading-2 : tie.Need-mul-reading-2 Inv-loop μ-loop
+mul-reading-2 c = omega arith
+
+shared-slice-read-reading : tie.Need-shared-slice-read-reading Inv-loop μ-loop
+shared-slice-read-reading c = omega arith
+
+use-of-requires : tie.Need-use-of-requires Inv-loop μ-loop
+use-of-requires c κs = c .before .before .before .before .before .pre .shapes-long
+
+unit-requires : tie.Need-unit-requires Inv-loop μ-loop
+unit-requires c κs = search needs
+
+class-requires : tie.Need-class-requires Inv-loop μ-loop
+class-requires c κs = ap (λ (u : Use). u .source) (c .before .use-of .ensures)
+
+llf-requires : tie.Need-llf-requires Inv-loop μ-loop
+llf-requires c κs = search needs
+
+add-meter-requires : tie.Need-add-meter-requires Inv-loop μ-loop
+add-meter-requires c κs =
+    turn-asks _ _ _ (c .before .before .before .before .before .before .before .before .before .before .pre) _ (c .before .before .before .before .before .before .before .loop-test .taken) (c .before .before .before .before .before .before .before .before .loop .inv .1)
+    (c .before .before .before .unit .ensures) (c .before .before .before .before .use-of .ensures) (c .before .before .class .ensures) (c .llf .ensures)
+
+-- the count that a turn increases
+counted : (c : tie.After-add-meter Inv-loop μ-loop) → let from = c .before .before .before .before .before .use-of .result .source in (from < 4) × (getD (c .before .before .before .before .before .before .before .before .before .loop .counts) from 0 ≤ c .before .before .before .before .before .before .before .before .before .loop .i)
+counted c =
+    count-bounds _ _ _ (c .before .before .before .before .before .before .before .before .before .before .before .pre) _ (c .before .before .before .before .before .before .before .before .loop-test .taken) (c .before .before .before .before .before .before .before .before .before .loop .inv .1)
+    (c .before .before .before .before .before .use-of .ensures)
+
+mul-counts : tie.Need-mul-counts Inv-loop μ-loop
+mul-counts c = omega (arith, counted c)
+
+element-copy-out-counts : tie.Need-element-copy-out-counts Inv-loop μ-loop
+element-copy-out-counts c = counted c .0
+
+add-counts : tie.Need-add-counts Inv-loop μ-loop
+add-counts c = omega (arith, counted (c .before))
+
+mul-counts-2 : tie.Need-mul-counts-2 Inv-loop μ-loop
+mul-counts-2 c = omega (arith, counted (c .before))
+
+element-write-counts : tie.Need-element-write-counts Inv-loop μ-loop
+element-write-counts c = counted (c .before) .0
+
+add-i : tie.Need-add-i Inv-loop μ-loop
+add-i c = omega arith
+
+loop-less : tie.Need-loop-less Inv-loop μ-loop
+loop-less c = omega arith
+
+loop-again : tie.Need-loop-again Inv-loop μ-loop
+loop-again c = (
+  omega arith,
+  turn-gives _ _ _ (c .before .before .before .before .before .before .before .before .before .before .before .before .before .pre) _ (c .before .before .before .before .before .before .before .before .before .before .loop-test .taken) (c .before .before .before .before .before .before .before .before .before .before .before .loop .inv .1)
+      (c .before .before .before .before .before .before .unit .ensures) (c .before .before .before .before .before .before .before .use-of .ensures) (c .before .before .before .before .before .class .ensures) (c .before .before .before .llf .ensures)
+      (c .before .before .add-meter .ensures),
+)
+
+returns : tie.Need-returns Inv-loop μ-loop
+returns c =
+    let e : c .before .loop .i ≡ c .before .before .before .args .n = omega arith in
+    rw e at (c .before .loop .inv .1)
+
+pub gather-spec : {M : Type 1} → statement M
+gather-spec =
+    tie.close
+    (tie.spec
+    Inv-loop
+    μ-loop
+    loop-holds
+    mul-registration
+    add-registration
+    mul-registration-2
+    shared-slice-read-registration
+    mul-reading
+    add-reading
+    mul-reading-2
+    shared-slice-read-reading
+    use-of-requires
+    unit-requires
+    class-requires
+    llf-requires
+    add-meter-requires
+    mul-counts
+    element-copy-out-counts
+    add-counts
+    mul-counts-2
+    element-write-counts
+    add-i
+    loop-less
+    loop-again
+    returns)

@@ -1,0 +1,212 @@
+-- `share_down` meets its contract. The loop's invariant: the floors and fractions of the units passed are filled in.
+use Prim.Native.Nat.{ℕ, _+_, _-_, _≤_, _<_}
+use mathlib.Core.Path.{_≡_, sym, ap, _∙_}
+use mathlib.Core.List.{List, map}
+use native.Mathlib.Omega.{arith}
+use lib.IntN.{ℤ, pos, natAbs, _+ℤ_, _*ℤ_}
+use lib.ListN.{length, getD, set, length-set, length-map}
+use mir.Syntax.{w64}
+use mir.Val.{toZ, ofZ}
+use mir.ValLaws.{toZ-ofZ}
+use Rattle.integers.specs.Quotient.{floorOf, fractionOf, quotientOf}
+use Rattle.integers.specs.Share.{ShareArguments}
+use Rattle.integers.proofs.Fit.{Held, fit, held, plus-fits, plus-held}
+use Rattle.integers.proofs.Size.{size-positive}
+use Rattle.integers.proofs.Sum.{entry-map}
+use Rattle.allocation.specs.declared.UnitSums.{UnitSums}
+use Rattle.allocation.specs.Correction.{units, netIn, weightedIn, shareFloor, shareFraction}
+use Rattle.allocation.specs.Contracts.{ShareDownArguments, SharedDown}
+use Rattle.allocation.proofs.Apportioned.{share-split, fraction-split}
+use Rattle.allocation.proofs.Filled.{Filled, filled-none, filled-next, filled-all}
+use Rattle.allocation.proofs.Quotients.{quotient-most}
+use Rattle.allocation.proofs.shares.share_down.Statement.{statement}
+use Rattle.allocation.proofs.shares.share_down.Tie as tie
+
+-- what is read past the last unit
+abbrev none : UnitSums
+none = record { net = pos 0; weighted = pos 0 }
+
+-- the units whose n and a are given, of which the first i have their floors and fractions
+record Done (u w : ℤ) (nets weighted floors : List ℤ) (fractions : List ℕ) (i : ℕ) : Type 0 where
+  floors-long : length floors ≡ units
+  fractions-long : length fractions ≡ units
+  floors-done : (sums : List UnitSums) → nets ≡ map netIn sums → weighted ≡ map weightedIn sums → Filled (shareFloor u w) sums floors i
+  fractions-done : (sums : List UnitSums) → nets ≡ map netIn sums → weighted ≡ map weightedIn sums → Filled (shareFraction u w) sums fractions i
+
+abbrev Inv-loop : tie.InvT-loop
+Inv-loop u w nets weighted floors₀ fractions₀ unit₀ floors fractions unit = (unit ≤ 32) × Done (toZ w64 u) (toZ w64 w) nets weighted floors fractions unit
+
+abbrev μ-loop : tie.MeasureT-loop
+μ-loop u w nets weighted floors₀ fractions₀ unit₀ floors fractions unit = 32 - unit
+
+module _ {u w : ℤ} {nets weighted floors₀ : List ℤ} {fractions₀ : List ℕ} (args : ShareDownArguments u w nets weighted floors₀ fractions₀) where
+  units-long : (sums : List UnitSums) → nets ≡ map netIn sums → length sums ≡ units
+  units-long sums e = sym (length-map sums netIn) ∙ sym (ap length e) ∙ args .nets-long
+
+  none-done : Done u w nets weighted floors₀ fractions₀ 0
+  none-done =
+      record {
+        floors-long = args .floors-long;
+        fractions-long = args .fractions-long;
+        floors-done = λ sums n a. filled-none _ sums _ (args .floors-long ∙ sym (units-long sums n));
+        fractions-done = λ sums n a. filled-none _ sums _ (args .fractions-long ∙ sym (units-long sums n));
+      }
+
+  all-done : {floors : List ℤ} {fractions : List ℕ} (i : ℕ) → units ≤ i → Done u w nets weighted floors fractions i → SharedDown u w nets weighted floors fractions
+  all-done i h d =
+      record {
+        floors-are = λ sums n a. filled-all _ sums _ i (d .floors-done sums n a) (omega (arith, units-long sums n));
+        fractions-are = λ sums n a. filled-all _ sums _ i (d .fractions-done sums n a) (omega (arith, units-long sums n));
+      }
+
+  -- the next unit, by its n and a
+  module _ (i : ℕ) where
+    abbrev net : ℤ
+    net = getD nets i (pos 0)
+
+    abbrev product : ℤ
+    product = u *ℤ getD weighted i (pos 0)
+
+    abbrev correction : ℤ
+    correction = floorOf product (natAbs w)
+
+    net-held : Held (ofZ w64 net) net 100000000000000000
+    net-held = held net 100000000000000000 (args .nets-bound i) (omega arith)
+
+    correction-small : natAbs correction ≤ 1400000000000000
+    correction-small =
+        let h : natAbs u ≤ natAbs w = omega (arith, args .within-tolerance) in
+        omega (arith, quotient-most u (getD weighted i (pos 0)) w (size-positive w (args .w-positive)) h, args .weighted-bound i)
+
+    correction-held : Held (ofZ w64 correction) correction 1400000000000000
+    correction-held = held correction 1400000000000000 correction-small (omega arith)
+
+    share-arguments : ShareArguments u (getD weighted i (pos 0)) w
+    share-arguments =
+        record {
+          u-bound = args .u-bound;
+          a-bound = args .weighted-bound i;
+          w-bound = args .w-bound;
+          w-positive = args .w-positive;
+          in-range = fit correction 1400000000000000 correction-small (omega arith);
+        }
+
+    module _ (sums : List UnitSums) (n : nets ≡ map netIn sums) (a : weighted ≡ map weightedIn sums) (h : i < units) where
+      in-units : i < length sums
+      in-units = omega (arith, units-long sums n)
+
+      floor-is : shareFloor u w (getD sums i none) ≡ net +ℤ correction
+      floor-is = rw (n, a, entry-map netIn sums i none (pos 0) in-units, entry-map weightedIn sums i none (pos 0) in-units) (share-split u w _ (args .w-positive))
+
+      fraction-is : shareFraction u w (getD sums i none) ≡ fractionOf product (natAbs w)
+      fraction-is = rw (a, entry-map weightedIn sums i none (pos 0) in-units) (fraction-split u w _ (args .w-positive))
+
+    next-done : {floors : List ℤ} {fractions : List ℕ} → i < units → Done u w nets weighted floors fractions i
+        → Done u w nets weighted (set floors i (net +ℤ correction)) (set fractions i (fractionOf product (natAbs w))) (i + 1)
+    next-done h d =
+        record {
+          floors-long = simp length-set (d .floors-long);
+          fractions-long = simp length-set (d .fractions-long);
+          floors-done = λ sums n a. rw (← (floor-is sums n a h)) (filled-next _ sums _ i none (d .floors-done sums n a) (in-units sums n a h));
+          fractions-done = λ sums n a. rw (← (fraction-is sums n a h)) (filled-next _ sums _ i none (d .fractions-done sums n a) (in-units sums n a h));
+        }
+
+loop-holds : tie.Need-loop-holds Inv-loop μ-loop
+loop-holds c = (omega arith, rw (toZ-ofZ w64 _ (c .fits .u), toZ-ofZ w64 _ (c .fits .w)) (none-done (c .pre)))
+
+mul-share-quotient : tie.Need-mul-share-quotient Inv-loop μ-loop
+mul-share-quotient c = omega arith
+
+element-copy-out-share-quotient : tie.Need-element-copy-out-share-quotient Inv-loop μ-loop
+element-copy-out-share-quotient c = omega arith
+
+module _ (c : tie.After-share-quotient-arg Inv-loop μ-loop) where
+  read-u : toZ w64 (ofZ w64 (c .before .before .before .args .u)) ≡ c .before .before .before .args .u
+  read-u = toZ-ofZ w64 _ (c .before .before .before .fits .u)
+
+  read-w : toZ w64 (ofZ w64 (c .before .before .before .args .w)) ≡ c .before .before .before .args .w
+  read-w = toZ-ofZ w64 _ (c .before .before .before .fits .w)
+
+  abbrev a : ℤ
+  a = getD (c .before .before .before .args .weighted .now) (c .before .before .loop .unit) (pos 0)
+
+  read-a : toZ w64 (ofZ w64 a) ≡ a
+  read-a = toZ-ofZ w64 _ (fit a 1400000000000000 (c .before .before .before .pre .weighted-bound (c .before .before .loop .unit)) (omega arith))
+
+share-quotient-requires : tie.Need-share-quotient-requires Inv-loop μ-loop
+share-quotient-requires c κs = rw (read-u c, read-a c, read-w c) (share-arguments (c .before .before .before .pre) (c .before .before .loop .unit))
+
+module _ (c : tie.After-share-quotient Inv-loop μ-loop) where
+  quotient-is : c .share-quotient .result ≡ quotientOf (c .before .before .before .before .args .u *ℤ a (c .before)) (natAbs (c .before .before .before .before .args .w))
+  quotient-is = rw (read-u (c .before), read-a (c .before), read-w (c .before)) at (c .share-quotient .ensures)
+
+mul-floors : tie.Need-mul-floors Inv-loop μ-loop
+mul-floors c = omega arith
+
+element-copy-out-floors : tie.Need-element-copy-out-floors Inv-loop μ-loop
+element-copy-out-floors c = omega arith
+
+add-floors : tie.Need-add-floors Inv-loop μ-loop
+add-floors c =
+    let s = c .before .before .before .before .before .before .before in
+    let i = c .before .before .before .before .before .before .loop .unit in
+    rw (quotient-is (c .before .before .before)) (plus-fits (net-held (s .pre) i) (correction-held (s .pre) i) (omega arith))
+
+mul-t17 : tie.Need-mul-t17 Inv-loop μ-loop
+mul-t17 c = omega arith
+
+slice-set-from-floors : tie.Need-slice-set-from-floors Inv-loop μ-loop
+slice-set-from-floors c = omega (arith, c .before .before .before .before .before .before .loop .inv .1 .floors-long)
+
+mul-fractions : tie.Need-mul-fractions Inv-loop μ-loop
+mul-fractions c = omega arith
+
+element-write-fractions : tie.Need-element-write-fractions Inv-loop μ-loop
+element-write-fractions c = omega arith
+
+add-unit : tie.Need-add-unit Inv-loop μ-loop
+add-unit c = omega arith
+
+loop-less : tie.Need-loop-less Inv-loop μ-loop
+loop-less c = omega arith
+
+loop-again : tie.Need-loop-again Inv-loop μ-loop
+loop-again c =
+    let q = c .before .before .before in
+    let s = q .before .before .before .before in
+    let l = q .before .before .before .loop in
+    let sum = plus-held (net-held (s .pre) (l .unit)) (correction-held (s .pre) (l .unit)) (omega arith) in
+    let done = rw (read-u (q .before), read-w (q .before)) at (l .inv .1) in
+    (omega arith, rw (read-u (q .before), read-w (q .before), quotient-is q, sum .reads) (next-done (s .pre) (l .unit) (omega arith) done))
+
+same-length : tie.Need-same-length Inv-loop μ-loop
+same-length c = c .before .loop .inv .1 .floors-long ∙ sym (c .before .before .pre .floors-long)
+
+returns : tie.Need-returns Inv-loop μ-loop
+returns c =
+    let s = c .before .before in
+    let l = c .before .loop in
+    all-done (s .pre) (l .unit) (omega arith) (rw (toZ-ofZ w64 _ (s .fits .u), toZ-ofZ w64 _ (s .fits .w)) at (l .inv .1))
+
+pub share-down-spec : {M : Type 1} → statement M
+share-down-spec =
+    tie.close
+    (tie.spec
+    Inv-loop
+    μ-loop
+    loop-holds
+    mul-share-quotient
+    element-copy-out-share-quotient
+    share-quotient-requires
+    mul-floors
+    element-copy-out-floors
+    add-floors
+    mul-t17
+    slice-set-from-floors
+    mul-fractions
+    element-write-fractions
+    add-unit
+    loop-less
+    loop-again
+    same-length
+    returns)

@@ -1,0 +1,112 @@
+// The energy of a meter, and the class it goes to.
+use crate::Use;
+ghost use mathlib.Core.Path.{_≡_};
+ghost use lib.ListN.{length};
+ghost use Rattle.book.specs.Limits.{categories};
+ghost use Rattle.book.specs.Contracts.{row};
+ghost use Rattle.allocation.specs.Energy.{readingSource, usedDeEnergised, sourceOf};
+ghost use Rattle.allocation.specs.Cells.{consumptionClass};
+ghost use Rattle.allocation.specs.Contracts.{sourceNumber, useOf};
+
+// Where a meter's energy comes from, in the order of the four counts.
+pub const ACTUAL: u64 = 0;
+
+pub const ESTIMATED: u64 = 1;
+
+pub const DEFAULTED: u64 = 2;
+
+pub const IDLE: u64 = 3;
+
+const DE_ENERGISED: u64 = 1;
+
+const ENERGISED: u64 = 2;
+
+// Where the energy of a reading in use comes from, by its quality code.
+fn reading_source(reading: u64) -> u64
+    ensures { λ r. ⌜ r ≡ sourceNumber (readingSource reading) ⌝ }
+{
+    if words::is_actual(words::quality(reading)) {
+        ACTUAL
+    } else {
+        ESTIMATED
+    }
+}
+
+// Whether a de-energised meter uses its reading.
+fn used_de_energised(reading: u64) -> bool
+    ensures { λ r. ⌜ r ≡ usedDeEnergised reading ⌝ }
+{
+    let quality = words::quality(reading);
+    (reading != words::NO_READING) & (words::is_actual(quality) | words::is_e2_or_e6(quality))
+}
+
+// Where a meter's energy comes from.
+pub fn source(registration: u64, reading: u64) -> u64
+    ensures { λ r. ⌜ r ≡ sourceNumber (sourceOf (row 0 registration reading)) ⌝ }
+{
+    let status = words::status(registration);
+    if status == ENERGISED {
+        if reading == words::NO_READING {
+            return DEFAULTED;
+        }
+        return reading_source(reading);
+    }
+    if status == DE_ENERGISED {
+        if used_de_energised(reading) {
+            return reading_source(reading);
+        }
+    }
+    IDLE
+}
+
+// A number of 32 bits at the full width.
+fn wide(x: u32) -> u64
+    ensures { λ r. ⌜ r ≡ x ⌝ }
+{
+    x as u64
+}
+
+// What a meter comes to under these shapes.
+pub fn use_of(shapes: &[u32; 64], registration: u64, reading: u64) -> Use
+    requires { ⌜ length (now shapes) ≡ categories ⌝ }
+    ensures { λ r. ⌜ r ≡ useOf (now (shapes .entry)) (row 0 registration reading) ⌝ }
+{
+    let from = source(registration, reading);
+    if from <= ESTIMATED {
+        return Use {
+            source: from,
+            wh: words::consumption(reading),
+            lacks: false,
+        };
+    }
+    if from == IDLE {
+        return Use {
+            source: from,
+            wh: 0,
+            lacks: false,
+        };
+    }
+    let category = words::category(registration) as usize;
+    let shape = wide(shapes[category]);
+    if shape == book::Settings::SHAPE_MISSING {
+        return Use {
+            source: from,
+            wh: 0,
+            lacks: true,
+        };
+    }
+    Use {
+        source: from,
+        wh: shape,
+        lacks: false,
+    }
+}
+
+// The class of a meter's consumption, from its registration and where its energy comes from.
+pub fn class(registration: u64, from: u64, reading: u64) -> u64
+    requires { ⌜ from ≡ sourceNumber (sourceOf (row 0 registration reading)) ⌝ }
+    ensures { λ r. ⌜ r ≡ consumptionClass (row 0 registration reading) ⌝ }
+{
+    let estimate = if from == ACTUAL { 0 } else { 1 };
+    8 * words::segment(registration) + 4 * words::direction(registration) + 2 * estimate
+}

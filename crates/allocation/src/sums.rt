@@ -1,0 +1,77 @@
+// From cells to the units' sums: losses rounded, n and a of a unit, and totals over units.
+use crate::UnitSums;
+use integers::nearest_wh;
+ghost use mathlib.Core.Path.{_≡_};
+ghost use lib.IntN.{pos};
+ghost use Rattle.integers.specs.Sum.{sum};
+ghost use Rattle.allocation.specs.Contracts.{wholeCell, sumsOf, UnitArguments, AllUnitsArguments, AllUnits, TotalArguments};
+
+// A cell as it counts: a loss rounded to whole Wh, a consumption as it is.
+fn whole_cell(class: usize, raw: i64) -> i64
+    ensures { λ r. ⌜ r ≡ wholeCell class raw ⌝ }
+{
+    if class % 2 == 1 { nearest_wh(raw) } else { raw }
+}
+
+// A weight as a signed number, to multiply a cell by it.
+fn signed(x: u32) -> i64
+    ensures { λ r. ⌜ r ≡ pos x ⌝ }
+{
+    x as i64
+}
+
+// n and a of a unit, from its cells before rounding and the weights.
+pub fn unit_sums(cells: [i64; 24], weights: &[u32; 24]) -> UnitSums
+    requires { ⌜ UnitArguments cells (now weights) ⌝ }
+    ensures { λ r. ⌜ r ≡ sumsOf cells (now (weights .entry)) ⌝ }
+{
+    let mut net = 0;
+    let mut weighted = 0;
+    let mut class = 0;
+    while class < 24 {
+        let c = whole_cell(class, cells[class]);
+        weighted = weighted + c * signed(weights[class]);
+        if class / 4 % 2 == 0 {
+            net = net + c;
+        } else {
+            net = net - c;
+        }
+        class += 1;
+    }
+    UnitSums { net, weighted }
+}
+
+// n and a of each of the 32 units.
+pub fn all_units(
+    cells: &[[i64; 24]; 32],
+    weights: &[u32; 24],
+    nets: &mut [i64; 32],
+    weighted: &mut [i64; 32],
+)
+    requires { ⌜ AllUnitsArguments (now cells) (now weights) (now nets) (now weighted) ⌝ }
+    ensures { λ r. ⌜ AllUnits (now (cells .entry)) (now (weights .entry)) (now (nets .exit)) (now (weighted .exit)) ⌝ }
+{
+    let mut unit = 0;
+    while unit < 32 {
+        let sums = unit_sums(cells[unit], weights);
+        let net = sums.net;
+        let sum = sums.weighted;
+        nets[unit] = net;
+        weighted[unit] = sum;
+        unit += 1;
+    }
+}
+
+// The total over the units.
+pub fn total(xs: &[i64]) -> i64
+    requires { ⌜ TotalArguments (now xs) ⌝ }
+    ensures { λ r. ⌜ r ≡ sum (now (xs .entry)) ⌝ }
+{
+    let mut all = 0;
+    let mut i = 0;
+    while i < xs.len() {
+        all = all + xs[i];
+        i += 1;
+    }
+    all
+}
