@@ -1,11 +1,14 @@
 -- n and a of a unit, one class after the other: what each cell adds to them.
-use Prim.Native.Nat.{ℕ, zero, suc, _+_, _<_}
+use Prim.Native.Nat.{ℕ, zero, suc, _+_, _/_, _%_, _<_}
 use mathlib.Core.Path.{_≡_, refl, sym, ap}
+use mathlib.Core.Bool.{Bool, true, false, cond}
 use mathlib.Core.List.{List, [], _∷_}
 use native.Mathlib.Omega.{arith}
 use native.Mathlib.Nat.{zero-add, le-of-suc-le-suc}
-use lib.IntN.{ℤ, pos, _+ℤ_, _*ℤ_, +ℤ-comm, +ℤ-assoc}
+use lib.Dec.{eqb}
+use lib.IntN.{ℤ, pos, negℤ, natAbs, _+ℤ_, _*ℤ_, +ℤ-comm, +ℤ-assoc}
 use lib.ListN.{length, take, getD}
+use Rattle.integers.proofs.Size.{size-neg}
 use Rattle.allocation.specs.Correction.{byDirection, netOf, weightedOf}
 use Rattle.allocation.specs.Contracts.{wholeCell, roundedFrom}
 
@@ -51,3 +54,11 @@ weighted-next (c ∷ cells) (w ∷ weights) zero h k = +ℤ-comm (c *ℤ pos w) 
 weighted-next (c ∷ cells) (w ∷ weights) (suc i) h k =
     rw (weighted-next cells weights i (le-of-suc-le-suc h) (le-of-suc-le-suc k))
     (sym (+ℤ-assoc (c *ℤ pos w) (weightedOf (take i cells) weights) (getD cells i (pos 0) *ℤ pos (getD weights i 0))))
+
+-- a cell's sign in n does not change its size
+pub direction-size : (class : ℕ) (c : ℤ) → natAbs (byDirection class c) ≡ natAbs c
+direction-size class c = by (eqb (class / 4 % 2) 0)
+  where
+    by : (t : Bool) → natAbs (cond t c (negℤ c)) ≡ natAbs c
+    by true = refl
+    by false = size-neg c

@@ -19,7 +19,8 @@ pub fn share_down(
     let mut unit = 0;
     while unit < 32 {
         let q = share_quotient(u, weighted[unit], w);
-        floors[unit] = nets[unit] + q.floor;
+        let floor = nets[unit] + q.floor;
+        floors[unit] = floor;
         fractions[unit] = q.fraction;
         unit += 1;
     }
@@ -53,7 +54,7 @@ pub fn hand_out(volumes: &mut [i64], fractions: &[u64; 32], lack: u64)
             other += 1;
         }
         if before < lack {
-            volumes[unit] = volumes[unit] + 1;
+            volumes[unit] += 1;
             left -= 1;
         }
         unit += 1;

@@ -2,8 +2,10 @@
 use crate::UnitSums;
 use integers::nearest_wh;
 ghost use mathlib.Core.Path.{_≡_};
-ghost use lib.IntN.{pos};
+ghost use Prim.Native.Nat.{_<_, _^_};
+ghost use lib.IntN.{pos, natAbs};
 ghost use Rattle.integers.specs.Sum.{sum};
+ghost use Rattle.allocation.specs.Correction.{byDirection};
 ghost use Rattle.allocation.specs.Contracts.{wholeCell, sumsOf, UnitArguments, AllUnitsArguments, AllUnits, TotalArguments};
 
 // A cell as it counts: a loss rounded to whole Wh, a consumption as it is.
@@ -11,6 +13,14 @@ fn whole_cell(class: usize, raw: i64) -> i64
     ensures { λ r. ⌜ r ≡ wholeCell class raw ⌝ }
 {
     if class % 2 == 1 { nearest_wh(raw) } else { raw }
+}
+
+// A cell as it counts in n: import as it is, export negated.
+fn by_direction(class: usize, c: i64) -> i64
+    requires { ⌜ natAbs c < 2 ^ 63 ⌝ }
+    ensures { λ r. ⌜ r ≡ byDirection class c ⌝ }
+{
+    if class / 4 % 2 == 0 { c } else { -c }
 }
 
 // A weight as a signed number, to multiply a cell by it.
@@ -30,12 +40,9 @@ pub fn unit_sums(cells: [i64; 24], weights: &[u32; 24]) -> UnitSums
     let mut class = 0;
     while class < 24 {
         let c = whole_cell(class, cells[class]);
-        weighted = weighted + c * signed(weights[class]);
-        if class / 4 % 2 == 0 {
-            net = net + c;
-        } else {
-            net = net - c;
-        }
+        let directed = by_direction(class, c);
+        net += directed;
+        weighted += c * signed(weights[class]);
         class += 1;
     }
     UnitSums { net, weighted }
@@ -70,7 +77,7 @@ pub fn total(xs: &[i64]) -> i64
     let mut all = 0;
     let mut i = 0;
     while i < xs.len() {
-        all = all + xs[i];
+        all += xs[i];
         i += 1;
     }
     all

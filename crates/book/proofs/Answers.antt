@@ -1,7 +1,7 @@
 -- An outcome by its cause: what a refusal and an acceptance give, and what an acceptance tells.
 use Prim.Native.Nat.{ℕ, zero, suc, _≤_, _<_}
-use mathlib.Core.Path.{_≡_, refl, sym, _∙_, ap}
-use mathlib.Core.Bool.{Bool, true, false, not, and-eq-true-iff}
+use mathlib.Core.Path.{_≡_, refl}
+use mathlib.Core.Bool.{Bool, true, false, and-eq-true-iff}
 use mathlib.Core.List.{List}
 use mathlib.Core.Logic.{⊎-elim}
 use native.Mathlib.Omega.{arith}
@@ -11,9 +11,9 @@ use Rattle.words.proofs.Ranges.{either}
 use Rattle.book.specs.Limits.{classes, categories, weightMost, shapeMost, shapeMissing}
 use Rattle.book.specs.declared.Settings.{Settings}
 use Rattle.book.specs.Book.{Book, wellFormed}
-use Rattle.book.specs.Causes.{refuse, accepted}
+use Rattle.book.specs.Causes.{refuse, accepted, bookIllFormed, argumentOutOfRange}
 use Rattle.book.specs.Calls.{Setting, shape, weight, Outcome, outcome, settingInRange, withSetting, settingCause, settingCall}
-use Rattle.book.specs.Contracts.{lent, bookAndRange, Gives}
+use Rattle.book.specs.Contracts.{lent, Gives, Sets}
 
 -- a refusal gives its number, the settings and the rows as they were
 pub gives-refusal : (cause : ℕ) (made given : Book) → (cause ≡ accepted → ⊥) → Gives (outcome cause made given) (record { number = cause; settings = given .settings }) (given .rows)
@@ -32,29 +32,21 @@ pub passed : (b : Bool) (k rest : ℕ) → refuse b (suc k) rest ≡ accepted �
 passed true k rest h = absurd (omega arith)
 passed false k rest h = (refl, h)
 
--- the arguments of an accepted call are in range
-pub in-range : (formed inRange : Bool) → bookAndRange formed inRange ≡ accepted → inRange ≡ true
-in-range true true h = refl
-in-range true false h = absurd (omega arith)
-in-range false true h = absurd (omega arith)
-in-range false false h = absurd (omega arith)
+-- the ways of a call that sets a setting: on an ill-formed book, and on a well-formed one by its range test
+module _ (x : Setting) (s : Settings) where
+  pub setting-on-ill-formed : (words : List ℕ) → wellFormed (lent s words) ≡ false → Gives (settingCall (lent s words) x) (record { number = bookIllFormed; settings = s }) words
+  unfolding settingCall settingCause
+  setting-on-ill-formed words h = rw h (gives-refusal bookIllFormed _ (lent s words) (λ e. omega arith))
 
--- the answer of a call that sets a setting, from its cause and from what its range test gave
-module _ (s : Settings) (words : List ℕ) (x : Setting) {cause : ℕ} {t : Bool} (range : t ≡ settingInRange x) (gave : cause ≡ bookAndRange (wellFormed (lent s words)) t) where
-  cause-is : cause ≡ settingCause (lent s words) x
-  unfolding settingCause
-  cause-is = gave ∙ ap (bookAndRange (wellFormed (lent s words))) range
+  pub sets-out-of-range : settingInRange x ≡ false → Sets (λ b. settingCall b x) s (record { number = argumentOutOfRange; settings = s })
+  unfolding settingCall settingCause
+  sets-out-of-range h =
+      record { gives = λ words wf. rw (wf, h) (gives-refusal argumentOutOfRange _ (lent s words) (λ e. omega arith)) }
 
-  pub setting-refused : (cause ≡ accepted → ⊥) → Gives (settingCall (lent s words) x) (record { number = cause; settings = s }) words
-  unfolding settingCall
-  setting-refused h = rw (← cause-is) (gives-refusal cause _ (lent s words) h)
-
-  pub setting-made : cause ≡ accepted → Gives (settingCall (lent s words) x) (record { number = accepted; settings = withSetting x s }) words
-  unfolding settingCall
-  setting-made h = rw (← cause-is) (gives-acceptance cause (lent (withSetting x s) words) (lent s words) h)
-
-  pub setting-in-range : cause ≡ accepted → settingInRange x ≡ true
-  setting-in-range h = sym range ∙ in-range (wellFormed (lent s words)) t (sym gave ∙ h)
+  pub sets-in-range : settingInRange x ≡ true → Sets (λ b. settingCall b x) s (record { number = accepted; settings = withSetting x s })
+  unfolding settingCall settingCause
+  sets-in-range h =
+      record { gives = λ words wf. rw (wf, h) (gives-acceptance accepted (lent (withSetting x s) words) (lent s words) refl) }
 
 -- what the range tests tell of the numbers to be stored
 pub shape-bounds : (category wh : ℕ) → settingInRange (shape category wh) ≡ true → (category < categories) × (wh ≤ shapeMissing)

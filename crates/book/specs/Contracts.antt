@@ -1,7 +1,7 @@
 -- How the contracts of the functions speak: a call's outcome against what a function returns and leaves.
 use Prim.Native.Nat.{ℕ, suc, _≤_}
 use mathlib.Core.Path.{_≡_}
-use mathlib.Core.Bool.{Bool, true, not, _||_, cond}
+use mathlib.Core.Bool.{Bool, true, _||_, cond}
 use mathlib.Core.List.{List, [], _∷_}
 use lib.Dec.{leb, ltb, eqb}
 use Rattle.book.specs.declared.Settings.{Settings}
@@ -10,7 +10,6 @@ use Rattle.book.specs.declared.Place.{Place}
 use Rattle.book.specs.Settings.{withMeters}
 use Rattle.book.specs.Rows.{Row, capacity, rowsOf, rowsFormed, isKnown}
 use Rattle.book.specs.Book.{Book, wellFormed}
-use Rattle.book.specs.Causes.{refuse, accepted, bookIllFormed, argumentOutOfRange}
 use Rattle.book.specs.Calls.{Outcome}
 
 -- the settings and rows that a call is lent, as a book
@@ -22,10 +21,6 @@ pub record Gives (o : Outcome) (answer : Answer) (rowsAfter : List ℕ) : Type 0
   pub number : answer .number ≡ o .number
   pub settings : answer .settings ≡ o .book .settings
   pub rows : rowsAfter ≡ o .book .rows
-
--- causes 1 and 2, of whether the book is well formed and whether the arguments are in range
-abbrev pub bookAndRange : Bool → Bool → ℕ
-bookAndRange formed inRange = refuse (not formed) bookIllFormed (refuse (not inRange) argumentOutOfRange accepted)
 
 -- the row of these words
 abbrev pub row : ℕ → ℕ → ℕ → Row
@@ -52,3 +47,7 @@ pub record RowsReady (meters : ℕ) (words : List ℕ) : Type 0 where
 pub record Stores (call : Book → Outcome) (meters : ℕ) (words : List ℕ) (number metersAfter : ℕ) (wordsAfter : List ℕ) : Type 0 where
   pub gives : (s : Settings) → wellFormed (lent (withMeters meters s) words) ≡ true
       → Gives (call (lent (withMeters meters s) words)) (record { number = number; settings = withMeters metersAfter s }) wordsAfter
+
+-- what a call gives that is made on the settings of a well-formed book, whatever its rows, which it leaves
+pub record Sets (call : Book → Outcome) (s : Settings) (answer : Answer) : Type 0 where
+  pub gives : (words : List ℕ) → wellFormed (lent s words) ≡ true → Gives (call (lent s words)) answer words

@@ -3,17 +3,18 @@ use crate::Answer;
 use crate::Settings;
 use crate::formed::is_formed;
 use crate::formed::is_shape;
-use crate::formed::is_take;
-use crate::formed::is_tolerance;
 use crate::formed::is_weight;
+use crate::replace::replace_shape;
+use crate::replace::replace_take;
+use crate::replace::replace_tolerance;
+use crate::replace::replace_weight;
 use crate::store::store_reading;
 use crate::store::store_registration;
 use words::Reading;
 use words::Registration;
 ghost use mathlib.Core.Path.{_≡_};
 ghost use Rattle.book.specs.Calls.{shape, weight, tolerance, groupTake, settingInRange, registerInRange, readingCallInRange, settingCall, registerCall, readingCall};
-ghost use Rattle.book.specs.Book.{wellFormed};
-ghost use Rattle.book.specs.Contracts.{lent, bookAndRange, Gives};
+ghost use Rattle.book.specs.Contracts.{lent, Gives};
 
 pub const ACCEPTED: u64 = 0;
 
@@ -55,82 +56,56 @@ pub fn reading_in_range(mpan: u64, reading: Reading) -> bool
     words::is_mpan(mpan) & reading.in_range()
 }
 
-// The cause of a call that sets a setting, of the book that it is lent and of whether its arguments are in range.
-fn setting_cause(settings: Settings, rows: &[u64], in_range: bool) -> u64
-    ensures { λ r. ⌜ r ≡ bookAndRange (wellFormed (lent settings (now (rows .entry)))) «in_range» ⌝ }
-{
-    if !is_formed(settings, rows) {
-        return BOOK_ILL_FORMED;
-    }
-    if !in_range {
-        return ARGUMENT_OUT_OF_RANGE;
-    }
-    ACCEPTED
-}
-
 // Replaces a load shape; SHAPE_MISSING sets it back to missing.
 pub fn set_shape(settings: Settings, rows: &[u64], category: u64, wh: u64) -> Answer
     ensures { λ r. ⌜ Gives (settingCall (lent settings (now (rows .entry))) (shape category wh)) r (now (rows .entry)) ⌝ }
 {
-    let number = setting_cause(settings, rows, shape_in_range(category, wh));
-    if number != ACCEPTED {
-        return Answer { number, settings };
+    if !is_formed(settings, rows) {
+        return Answer {
+            number: BOOK_ILL_FORMED,
+            settings,
+        };
     }
-    let mut made = settings;
-    made.shapes[category as usize] = wh as u32;
-    Answer {
-        number: ACCEPTED,
-        settings: made,
-    }
+    replace_shape(settings, category, wh)
 }
 
 // Replaces the weight of a class.
 pub fn set_weight(settings: Settings, rows: &[u64], class: u64, thousandths: u64) -> Answer
     ensures { λ r. ⌜ Gives (settingCall (lent settings (now (rows .entry))) (weight class thousandths)) r (now (rows .entry)) ⌝ }
 {
-    let number = setting_cause(settings, rows, weight_in_range(class, thousandths));
-    if number != ACCEPTED {
-        return Answer { number, settings };
+    if !is_formed(settings, rows) {
+        return Answer {
+            number: BOOK_ILL_FORMED,
+            settings,
+        };
     }
-    let mut made = settings;
-    made.weights[class as usize] = thousandths as u32;
-    Answer {
-        number: ACCEPTED,
-        settings: made,
-    }
+    replace_weight(settings, class, thousandths)
 }
 
 // Replaces the tolerance.
 pub fn set_tolerance(settings: Settings, rows: &[u64], g: u64) -> Answer
     ensures { λ r. ⌜ Gives (settingCall (lent settings (now (rows .entry))) (tolerance g)) r (now (rows .entry)) ⌝ }
 {
-    let number = setting_cause(settings, rows, is_tolerance(g));
-    if number != ACCEPTED {
-        return Answer { number, settings };
+    if !is_formed(settings, rows) {
+        return Answer {
+            number: BOOK_ILL_FORMED,
+            settings,
+        };
     }
-    let mut made = settings;
-    made.tolerance = g as u32;
-    Answer {
-        number: ACCEPTED,
-        settings: made,
-    }
+    replace_tolerance(settings, g)
 }
 
 // Sets the Group Take.
 pub fn set_take(settings: Settings, rows: &[u64], wh: i64) -> Answer
     ensures { λ r. ⌜ Gives (settingCall (lent settings (now (rows .entry))) (groupTake wh)) r (now (rows .entry)) ⌝ }
 {
-    let number = setting_cause(settings, rows, is_take(wh));
-    if number != ACCEPTED {
-        return Answer { number, settings };
+    if !is_formed(settings, rows) {
+        return Answer {
+            number: BOOK_ILL_FORMED,
+            settings,
+        };
     }
-    let mut made = settings;
-    made.take_wh = wh;
-    made.take_set = true;
-    Answer {
-        number: ACCEPTED,
-        settings: made,
-    }
+    replace_take(settings, wh)
 }
 
 // Stores or replaces a meter's registration. A new meter gets its row in order and has no reading; a known one keeps its reading.

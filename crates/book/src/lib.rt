@@ -4,6 +4,7 @@ ghost use Rattle.book.specs.Settings.{freshSettings};
 
 pub mod calls;
 pub mod formed;
+pub mod replace;
 pub mod rows;
 pub mod store;
 

@@ -1,17 +1,19 @@
--- A well-formed book taken apart and put together: the number of meters, the settings and the rows. A setting in range leaves the settings well formed.
+-- A well-formed book taken apart and put together: the number of meters, the settings and the rows. A setting in range, and well-formed rows within capacity, leave it well formed.
 use Prim.Native.Nat.{ℕ, zero, suc, _≤_}
 use mathlib.Core.Path.{_≡_, refl}
 use mathlib.Core.Bool.{Bool, true, _&&_, and-eq-true-iff}
 use mathlib.Core.List.{List, [], _∷_}
 use borrow.Author.Tests.{leb-true, le-leb}
 use lib.Dec.{leb, ltb}
-use lib.ListN.{set}
+use lib.ListN.{length, set}
 use Rattle.book.specs.declared.Settings.{Settings}
 use Rattle.book.specs.Limits.{classes, categories}
 use Rattle.book.specs.Settings.{isWeight, isShape, isTolerance, takeFormed, allOf, freshSettings, settingsFormed, withMeters}
-use Rattle.book.specs.Rows.{capacity, rowsFormed}
+use Rattle.book.specs.Rows.{Row, capacity, rowsFormed, written}
 use Rattle.book.specs.Book.{Book, usedRows, wellFormed}
-use Rattle.book.specs.Calls.{Setting, shape, weight, tolerance, groupTake, settingInRange, withSetting}
+use Rattle.book.specs.Calls.{Setting, shape, weight, tolerance, groupTake, settingInRange, withSetting, withRows}
+use Rattle.book.proofs.WellFormed.{room}
+use Rattle.book.proofs.Written.{length-written, rows-of-written}
 
 pub record FormedBook (b : Book) : Type 0 where
   pub within : b .settings .meters ≤ capacity (b .rows)
@@ -99,3 +101,45 @@ meters-formed n s f = f
 pub fresh-formed : settingsFormed freshSettings ≡ true
 unfolding settingsFormed allOf takeFormed
 fresh-formed = refl
+
+pub capacity-same : (words more : List ℕ) → length words ≡ length more → capacity words ≡ capacity more
+unfolding capacity
+capacity-same words more h = rw h
+
+pub count-kept : (x : Setting) (s : Settings) → withSetting x s .meters ≡ s .meters
+unfolding withSetting
+count-kept (shape k wh) s = refl
+count-kept (weight k thousandths) s = refl
+count-kept (tolerance g) s = refl
+count-kept (groupTake wh) s = refl
+
+module _ (b : Book) (wf : wellFormed b ≡ true) where
+  -- the book with a setting in range replaced
+  pub set-formed : (x : Setting) → settingInRange x ≡ true → wellFormed (record { settings = withSetting x (b .settings); rows = b .rows }) ≡ true
+  unfolding usedRows
+  set-formed x h =
+      let before = formed-book b wf in
+      let count = count-kept x (b .settings) in
+      let made : Book = record { settings = withSetting x (b .settings); rows = b .rows } in
+      let whole : FormedBook made =
+      record {
+        within = rw count (before .within);
+        settings-formed = setting-formed x (b .settings) h (before .settings-formed);
+        rows-formed = rw count (before .rows-formed);
+      }
+      in
+      book-formed made whole
+
+  -- the book with other rows in use
+  pub rows-stored-formed : (rows : List Row) → rowsFormed 0 rows ≡ true → length rows ≤ capacity (b .rows) → wellFormed (withRows rows b) ≡ true
+  unfolding usedRows
+  rows-stored-formed rows formed fits =
+      let long = length-written rows (b .rows) (room (b .rows) (length rows) fits) in
+      let whole : FormedBook (withRows rows b) =
+      record {
+        within = rw (capacity-same (written rows (b .rows)) (b .rows) long) fits;
+        settings-formed = meters-formed (length rows) (b .settings) (formed-book b wf .settings-formed);
+        rows-formed = rw (rows-of-written (length rows) rows (b .rows) refl) formed;
+      }
+      in
+      book-formed (withRows rows b) whole

@@ -12,10 +12,14 @@ pub mod MeantMeters
 -- the same in the book
 pub mod Stored
 pub mod Formed
+pub mod CallFormed
 pub mod Means
 pub mod SettingStep
 pub mod RegisterStep
 pub mod ReadingStep
+-- the calls of a slice
+pub mod CallOf
+pub mod ListMade
 -- whole lists
 pub mod Meant
 pub mod Moved

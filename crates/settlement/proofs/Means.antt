@@ -21,7 +21,7 @@ use Rattle.settlement.specs.Demand.{isIn}
 use Rattle.settlement.proofs.Each.{each-mapped, each-permuted, length-permuted, in-permuted}
 use Rattle.settlement.proofs.MeantSettings.{settings-kept}
 use Rattle.settlement.proofs.Stored.{mpanOf, known-in, GivenBy, issue-given}
-use Rattle.settlement.proofs.Formed.{FormedBook, formed-book, book-formed, meters-formed}
+use Rattle.settlement.proofs.Formed.{formed-book, capacity-same, rows-stored-formed}
 
 -- the book b, on a slice as long as `words`, is well formed and is what the list means
 pub record Means (words : List ℕ) (b : Book) (calls : List Call) : Type 0 where
@@ -29,10 +29,6 @@ pub record Means (words : List ℕ) (b : Book) (calls : List Call) : Type 0 wher
   pub size : length (b .rows) ≡ length words
   pub settings-meant : b .settings ≡ meantSettings (capacity words) calls
   pub meters-meant : Permuted Row (usedRows b) (meantMeters (capacity words) calls)
-
-pub capacity-same : (words more : List ℕ) → length words ≡ length more → capacity words ≡ capacity more
-unfolding capacity
-capacity-same words more h = rw h
 
 mpans-of : (calls : List Call) (ks : List ℕ) → map mpanOf (map (meantMeter calls) ks) ≡ ks
 unfolding meantMeter
@@ -114,21 +110,12 @@ module _ (words : List ℕ) (b : Book) (calls : List Call) (means : Means words 
     pub rows-means : (rows : List Row) → rowsFormed 0 rows ≡ true → length rows ≤ capacity words → Permuted Row rows (meantMeters (capacity words) (calls ++ c ∷ [])) → Means words (withRows rows b) (calls ++ c ∷ [])
     unfolding usedRows
     rows-means rows formed within meters =
-        let before = formed-book b (means .formed) in
         let fits : length rows ≤ capacity (b .rows) = rw capacity-kept within in
-        let long : length (written rows (b .rows)) ≡ length (b .rows) = length-written rows (b .rows) (room (b .rows) (length rows) fits) in
         let back-again : rowsOf (length rows) (written rows (b .rows)) ≡ rows = rows-of-written (length rows) rows (b .rows) refl in
         let count : length rows ≡ length (meantMpans (capacity words) (calls ++ c ∷ [])) = length-permuted meters ∙ length-meters (capacity words) (calls ++ c ∷ []) in
-        let whole : FormedBook (withRows rows b) =
         record {
-          within = rw (capacity-same (written rows (b .rows)) (b .rows) long) fits;
-          settings-formed = meters-formed (length rows) (b .settings) (before .settings-formed);
-          rows-formed = rw back-again formed;
-        }
-        in
-        record {
-          formed = book-formed (withRows rows b) whole;
-          size = long ∙ means .size;
+          formed = rows-stored-formed b (means .formed) rows formed fits;
+          size = length-written rows (b .rows) (room (b .rows) (length rows) fits) ∙ means .size;
           settings-meant =
               ap (withMeters (length rows)) (means .settings-meant)
               ∙ ap (λ (n : ℕ). withMeters n (meantSettings (capacity words) calls)) count

@@ -8,11 +8,11 @@ use lib.Dec.{leb, eqb}
 use Rattle.words.specs.declared.Reading.{Reading}
 use Rattle.words.specs.Mpan.{isMpan}
 use Rattle.words.specs.Reading.{issueOf, readingInRange, qualityAllowed, readingWord}
-use Rattle.words.proofs.ReadingWord.{issue-kept, reading-word-well-formed}
+use Rattle.words.proofs.ReadingWord.{issue-kept}
 use Rattle.book.specs.Rows.{Row, capacity, isKnown, issueHeld, withReading}
 use Rattle.book.specs.Book.{Book, usedRows}
 use Rattle.book.specs.Calls.{Call, reading, outcome, readingCallInRange, readingCause, readingCall}
-use Rattle.book.proofs.WithReading.{length-reading, reading-formed}
+use Rattle.book.proofs.WithReading.{length-reading}
 use Rattle.allocation.proofs.Permuted.{Permuted, mapped}
 use Rattle.settlement.specs.Meaning.{gather, settingSet, mpanRegistered, meantMpans, countedReadings, newestReading, meantMeter, meantMeters}
 use Rattle.settlement.proofs.Snoc.{by-test, eqb-either-way}
@@ -24,6 +24,7 @@ use Rattle.settlement.proofs.MeantSettings.{mpans-kept}
 use Rattle.settlement.proofs.MeantMeters.{meters-kept, reading-refused, read-other, read-itself, others-read}
 use Rattle.settlement.proofs.Stored.{atMeter, readAs, changed-here, changed-not, reading-mapped}
 use Rattle.settlement.proofs.Formed.{formed-book}
+use Rattle.settlement.proofs.CallFormed.{read-rows-formed}
 use Rattle.settlement.proofs.Means.{Means, known-meant, rows-within, issue-meant, refused-means, rows-means}
 
 module _ (words : List ℕ) (b : Book) (calls : List Call) (means : Means words b calls) (m : ℕ) (r : Reading) where
@@ -114,7 +115,7 @@ module _ (words : List ℕ) (b : Book) (calls : List Call) (means : Means words 
           reading-stored =
               let word = readingWord r in
               let rows = withReading m word (usedRows b) in
-              let formed = reading-formed 0 m word (usedRows b) (formed-book b (means .formed) .rows-formed) (reading-word-well-formed r in-range quality) in
+              let formed = read-rows-formed b (means .formed) m r range quality in
               rw (means .formed, range, quality, known, above)
               (rows-means words b calls means (reading m r) refl rows formed (rw (length-reading m word (usedRows b)) (rows-within words b calls means)) read-meters)
 

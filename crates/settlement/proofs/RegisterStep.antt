@@ -1,21 +1,18 @@
 -- A register call, made on a book that is what a list means, leaves the book that the list with this call means: out of range, of a known meter, of a new one, and of a new one when the book is full.
 use Prim.Native.Nat.{ℕ, _<_}
 use mathlib.Core.Path.{_≡_, refl, sym, _∙_}
-use mathlib.Core.Bool.{true, false, and-eq-true-iff}
+use mathlib.Core.Bool.{true, false}
 use mathlib.Core.List.{List, [], _∷_, _++_}
 use native.Mathlib.Omega.{arith}
-use borrow.Author.Tests.{leb-true, eqb-true, eqb-false}
+use borrow.Author.Tests.{eqb-true, eqb-false}
 use lib.Dec.{leb, eqb}
 use lib.ListN.{length}
 use Rattle.words.specs.declared.Registration.{Registration}
-use Rattle.words.specs.Limits.{mpanLeast, mpanMost}
-use Rattle.words.specs.Mpan.{isMpan}
-use Rattle.words.specs.Registration.{registrationInRange, registrationWord}
-use Rattle.words.proofs.RegistrationWord.{registration-word-well-formed}
-use Rattle.book.specs.Rows.{Row, capacity, rowsFormed, isKnown, newRow, withRegistration}
+use Rattle.words.specs.Registration.{registrationWord}
+use Rattle.book.specs.Rows.{Row, capacity, isKnown, newRow, withRegistration}
 use Rattle.book.specs.Book.{Book, usedRows}
 use Rattle.book.specs.Calls.{Call, register, outcome, registerInRange, hasNoRoom, registerCause, registerCall}
-use Rattle.book.proofs.WithRegistration.{length-inserted, length-replaced, registration-formed}
+use Rattle.book.proofs.WithRegistration.{length-inserted, length-replaced}
 use Rattle.allocation.proofs.Permuted.{Permuted, keep, chain, to-the-end, mapped}
 use Rattle.settlement.specs.Meaning.{only, gather, settingSet, mpanRegistered, meantMpans, newestReading, meantMeter, meantMeters}
 use Rattle.settlement.specs.Demand.{isIn}
@@ -27,13 +24,8 @@ use Rattle.settlement.proofs.MeantSettings.{mpans-kept}
 use Rattle.settlement.proofs.MeantMeters.{meters-kept, registration-refused, registered-other, registered-itself, others-registered}
 use Rattle.settlement.proofs.Stored.{atMeter, registeredAs, changed-here, changed-not, registration-mapped, registration-added}
 use Rattle.settlement.proofs.Formed.{formed-book}
+use Rattle.settlement.proofs.CallFormed.{registered-rows-formed}
 use Rattle.settlement.proofs.Means.{Means, known-meant, rows-counted, rows-within, room-left, no-room-left, refused-means, rows-means}
-
-above-nothing : (m : ℕ) → isMpan m ≡ true → 0 < m
-unfolding isMpan
-above-nothing m h =
-    let least = leb-true mpanLeast m (and-eq-true-iff (leb mpanLeast m) (leb m mpanMost) .0 h .0) in
-    omega arith
 
 module _ (words : List ℕ) (b : Book) (calls : List Call) (means : Means words b calls) (m : ℕ) (r : Registration) where
   register-out-of-range : registerInRange m r ≡ false → Means words (registerCall b m r .book) (calls ++ register m r ∷ [])
@@ -48,12 +40,6 @@ module _ (words : List ℕ) (b : Book) (calls : List Call) (means : Means words 
     mpan-last : gather mpanRegistered (calls ++ register m r ∷ []) ≡ gather mpanRegistered calls ++ m ∷ []
     unfolding mpanRegistered only
     mpan-last = gather-end mpanRegistered calls (register m r) ∙ rw range
-
-    rows-after-formed : rowsFormed 0 (withRegistration m (registrationWord r) (usedRows b)) ≡ true
-    rows-after-formed =
-        let parts = and-eq-true-iff (isMpan m) (registrationInRange r) .0 range in
-        registration-formed 0 m (registrationWord r) (usedRows b) (formed-book b (means .formed) .rows-formed)
-        (above-nothing m (parts .0)) (parts .0) (registration-word-well-formed r (parts .1))
 
     -- the list gives that meter the registration's word, and leaves every other meter
     registered-meter : (k : ℕ) → meantMeter (calls ++ register m r ∷ []) k ≡ atMeter m (registeredAs (registrationWord r)) (meantMeter calls k)
@@ -85,7 +71,7 @@ module _ (words : List ℕ) (b : Book) (calls : List Call) (means : Means words 
           let rows = withRegistration m (registrationWord r) (usedRows b) in
           let long : length rows ≡ length (usedRows b) = length-replaced 0 m (registrationWord r) (usedRows b) (formed-book b (means .formed) .rows-formed) known in
           rw (means .formed, range, known)
-          (rows-means words b calls means (register m r) refl rows rows-after-formed (rw long (rows-within words b calls means)) known-meters)
+          (rows-means words b calls means (register m r) refl rows (registered-rows-formed b (means .formed) m r range) (rw long (rows-within words b calls means)) known-meters)
 
     module _ (unknown : isKnown m (usedRows b) ≡ false) where
       absent : isIn m (meantMpans (capacity words) calls) ≡ false
@@ -132,7 +118,7 @@ module _ (words : List ℕ) (b : Book) (calls : List Call) (means : Means words 
             (chain (keep (means .meters-meant)) (to-the-end (newRow m word) (meantMeters (capacity words) calls))))
             in
             rw (means .formed, range, unknown, room)
-            (rows-means words b calls means (register m r) refl rows rows-after-formed (omega arith) more)
+            (rows-means words b calls means (register m r) refl rows (registered-rows-formed b (means .formed) m r range) (omega arith) more)
 
       module _ (no-room : leb (capacity (b .rows)) (b .settings .meters) ≡ true) where
         full-mpans : meantMpans (capacity words) (calls ++ register m r ∷ []) ≡ meantMpans (capacity words) calls

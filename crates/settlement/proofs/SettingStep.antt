@@ -3,23 +3,15 @@ use Prim.Native.Nat.{ℕ}
 use mathlib.Core.Path.{_≡_, refl, sym, _∙_, ap}
 use mathlib.Core.Bool.{true, false}
 use mathlib.Core.List.{List, [], _∷_, _++_}
-use Rattle.book.specs.declared.Settings.{Settings}
 use Rattle.book.specs.Rows.{capacity}
 use Rattle.book.specs.Book.{Book, usedRows}
-use Rattle.book.specs.Calls.{Setting, shape, weight, tolerance, groupTake, Call, setting, outcome, settingInRange, withSetting, settingCause, settingCall}
+use Rattle.book.specs.Calls.{Setting, Call, setting, outcome, settingInRange, withSetting, settingCause, settingCall}
 use Rattle.settlement.specs.Meaning.{only, settingSet, mpanRegistered}
 use Rattle.settlement.proofs.Snoc.{by-test}
 use Rattle.settlement.proofs.MeantSettings.{mpans-kept, settings-set}
 use Rattle.settlement.proofs.MeantMeters.{meters-kept, set-kept}
-use Rattle.settlement.proofs.Formed.{FormedBook, formed-book, book-formed, setting-formed}
+use Rattle.settlement.proofs.Formed.{count-kept, set-formed}
 use Rattle.settlement.proofs.Means.{Means, refused-means}
-
-count-kept : (x : Setting) (s : Settings) → withSetting x s .meters ≡ s .meters
-unfolding withSetting
-count-kept (shape k wh) s = refl
-count-kept (weight k thousandths) s = refl
-count-kept (tolerance g) s = refl
-count-kept (groupTake wh) s = refl
 
 module _ (words : List ℕ) (b : Book) (calls : List Call) (means : Means words b calls) (x : Setting) where
   setting-out-of-range : settingInRange x ≡ false → Means words (settingCall b x .book) (calls ++ setting x ∷ [])
@@ -33,22 +25,12 @@ module _ (words : List ℕ) (b : Book) (calls : List Call) (means : Means words 
   setting-made : settingInRange x ≡ true → Means words (settingCall b x .book) (calls ++ setting x ∷ [])
   unfolding settingCall settingCause outcome mpanRegistered usedRows
   setting-made h =
-      let before = formed-book b (means .formed) in
-      let count = count-kept x (b .settings) in
-      let made : Book = record { settings = withSetting x (b .settings); rows = b .rows } in
-      let whole : FormedBook made =
-      record {
-        within = rw count (before .within);
-        settings-formed = setting-formed x (b .settings) h (before .settings-formed);
-        rows-formed = rw count (before .rows-formed);
-      }
-      in
       rw (means .formed, h)
       (record {
-        formed = book-formed made whole;
+        formed = set-formed b (means .formed) x h;
         size = means .size;
         settings-meant = ap (withSetting x) (means .settings-meant) ∙ sym (settings-set (capacity words) calls x h);
-        meters-meant = rw (count, meters-kept (capacity words) calls (setting x) refl (set-kept calls x)) (means .meters-meant);
+        meters-meant = rw (count-kept x (b .settings), meters-kept (capacity words) calls (setting x) refl (set-kept calls x)) (means .meters-meant);
       })
 
   pub setting-step : Means words (settingCall b x .book) (calls ++ setting x ∷ [])

@@ -2,3 +2,4 @@
 pub mod Meaning
 pub mod Demand
 pub mod Cases
+pub mod Listed

@@ -1,1 +1,2 @@
-// What users link. The calls are defined in the crates below; this one states what a whole list of them comes to.
+// What users link. The calls are defined in the crates below; this one makes whole lists of them, and states what a list comes to.
+pub mod list;

@@ -126,9 +126,6 @@ slice-copy-out-volumes c = omega (arith, c .before .before .before .before .unit
 add-volumes : tie.Need-add-volumes Inv-loop μ-loop Inv-units μ-units
 add-volumes c = plus-fits (volume (c .before .before)) (held-literal 1 (omega arith)) (omega arith)
 
-mul-t23 : tie.Need-mul-t23 Inv-loop μ-loop Inv-units μ-units
-mul-t23 c = omega arith
-
 slice-set-from-volumes : tie.Need-slice-set-from-volumes Inv-loop μ-loop Inv-units μ-units
 slice-set-from-volumes c = slice-copy-out-volumes (c .before)
 
@@ -189,7 +186,6 @@ hand-out-spec =
     mul-volumes
     slice-copy-out-volumes
     add-volumes
-    mul-t23
     slice-set-from-volumes
     sub-left
     add-unit

@@ -140,23 +140,23 @@ module _ (c : tie.After-share-quotient Inv-loop μ-loop) where
   quotient-is : c .share-quotient .result ≡ quotientOf (c .before .before .before .before .args .u *ℤ a (c .before)) (natAbs (c .before .before .before .before .args .w))
   quotient-is = rw (read-u (c .before), read-a (c .before), read-w (c .before)) at (c .share-quotient .ensures)
 
-mul-floors : tie.Need-mul-floors Inv-loop μ-loop
-mul-floors c = omega arith
+mul-floor : tie.Need-mul-floor Inv-loop μ-loop
+mul-floor c = omega arith
 
-element-copy-out-floors : tie.Need-element-copy-out-floors Inv-loop μ-loop
-element-copy-out-floors c = omega arith
+element-copy-out-floor : tie.Need-element-copy-out-floor Inv-loop μ-loop
+element-copy-out-floor c = omega arith
 
-add-floors : tie.Need-add-floors Inv-loop μ-loop
-add-floors c =
+add-floor : tie.Need-add-floor Inv-loop μ-loop
+add-floor c =
     let s = c .before .before .before .before .before .before .before in
     let i = c .before .before .before .before .before .before .loop .unit in
     rw (quotient-is (c .before .before .before)) (plus-fits (net-held (s .pre) i) (correction-held (s .pre) i) (omega arith))
 
-mul-t17 : tie.Need-mul-t17 Inv-loop μ-loop
-mul-t17 c = omega arith
+mul-floor-2 : tie.Need-mul-floor-2 Inv-loop μ-loop
+mul-floor-2 c = omega arith
 
-slice-set-from-floors : tie.Need-slice-set-from-floors Inv-loop μ-loop
-slice-set-from-floors c = omega (arith, c .before .before .before .before .before .before .loop .inv .1 .floors-long)
+slice-set-from-floor : tie.Need-slice-set-from-floor Inv-loop μ-loop
+slice-set-from-floor c = omega (arith, c .before .before .before .before .before .before .loop .inv .1 .floors-long)
 
 mul-fractions : tie.Need-mul-fractions Inv-loop μ-loop
 mul-fractions c = omega arith
@@ -198,11 +198,11 @@ share-down-spec =
     mul-share-quotient
     element-copy-out-share-quotient
     share-quotient-requires
-    mul-floors
-    element-copy-out-floors
-    add-floors
-    mul-t17
-    slice-set-from-floors
+    mul-floor
+    element-copy-out-floor
+    add-floor
+    mul-floor-2
+    slice-set-from-floor
     mul-fractions
     element-write-fractions
     add-unit

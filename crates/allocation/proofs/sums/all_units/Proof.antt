@@ -61,11 +61,14 @@ loop-again : tie.Need-loop-again Inv-loop μ-loop
 loop-again c =
     let s = c .before .before .before .before .before .before in
     let l = c .before .before .before .before .before .loop in
+    let r = c .before .before .unit-sums in
+    let net = toZ-ofZ w64 (r .result .net) (record { sfits = c .struct-told2 .given .0 .1 }) in
+    let sum = toZ-ofZ w64 (r .result .weighted) (record { sfits = c .struct-told2 .given .1 .0 .1 }) in
     let h : l .unit < length (s .args .cells .now) = omega (arith, s .pre .rows-long) in (
       omega arith,
       (
-        rw (toZ-ofZ w64 _ (record { sfits = c .struct-told2 .given .0 .1 }), c .before .before .unit-sums .ensures) (filled-next _ _ _ (l .unit) [] (l .inv .1 .0) h),
-        rw (toZ-ofZ w64 _ (record { sfits = c .struct-told2 .given .1 .0 .1 }), c .before .before .unit-sums .ensures) (filled-next _ _ _ (l .unit) [] (l .inv .1 .1) h),
+        rw (net, r .ensures) (filled-next _ _ _ (l .unit) [] (l .inv .1 .0) h),
+        rw (sum, r .ensures) (filled-next _ _ _ (l .unit) [] (l .inv .1 .1) h),
       ),
     )
 

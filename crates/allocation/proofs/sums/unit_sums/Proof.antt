@@ -1,21 +1,19 @@
 -- `unit_sums` meets its contract. The loop's invariant: n and a are those of the cells passed.
-use Prim.Native.Nat.{ℕ, _+_, _-_, _*_, _/_, _%_, _≤_, _<_}
+use Prim.Native.Nat.{ℕ, _+_, _-_, _*_, _≤_, _<_}
 use mathlib.Core.Path.{_≡_}
 use mathlib.Core.List.{List}
-use mathlib.Core.Logic.{⊎-elim}
 use native.Mathlib.Omega.{arith}
 use native.Mathlib.Numerals.{add-one}
-use borrow.Author.Tests.{eq-eqb, ne-eqb}
-use lib.IntN.{ℤ, pos, _+ℤ_, _-ℤ_, _*ℤ_}
+use lib.IntN.{ℤ, pos, natAbs, _+ℤ_, _*ℤ_}
 use lib.ListN.{length, take, getD}
 use lib.Seq.{take-all}
 use mir.Syntax.{w64}
 use mir.Val.{SFits, toZ, ofZ}
 use mir.ValLaws.{toZ-ofZ}
-use Rattle.integers.proofs.Fit.{Held, held, held-literal, plus-fits, plus-held, minus-fits, minus-held, times-fits, times-held}
-use Rattle.allocation.specs.Correction.{netOf, weightedOf}
+use Rattle.integers.proofs.Fit.{Held, held, held-literal, plus-fits, plus-held, times-fits, times-held}
+use Rattle.allocation.specs.Correction.{byDirection, netOf, weightedOf}
 use Rattle.allocation.specs.Contracts.{roundedFrom, sumsOf, UnitArguments}
-use Rattle.allocation.proofs.RunningSums.{whole-length, whole-entry, net-next, weighted-next}
+use Rattle.allocation.proofs.RunningSums.{whole-length, whole-entry, net-next, weighted-next, direction-size}
 use Rattle.allocation.proofs.sums.unit_sums.Statement.{statement}
 use Rattle.allocation.proofs.sums.unit_sums.Tie as tie
 
@@ -32,53 +30,59 @@ Inv-loop weights cells net₀ weighted₀ class₀ net weighted class = (class �
 abbrev μ-loop : tie.MeasureT-loop
 μ-loop weights cells net₀ weighted₀ class₀ net weighted class = 24 - class
 
--- a turn at class i: c is its cell and w its weight
-record Turn (cells : List ℤ) (weights : List ℕ) (i net weighted : ℕ) (c w : ℤ) : Type 0 where
+-- a turn at class i, whose rounded cell is c
+record Turn (cells : List ℤ) (weights : List ℕ) (i net weighted : ℕ) (c : ℤ) : Type 0 where
   args : UnitArguments cells weights
   class-bound : i < 24
   net-held : NetHeld cells i net
   weighted-held : WeightedHeld cells weights i weighted
   cell-is : c ≡ getD (roundedFrom 0 cells) i (pos 0)
-  weight-is : w ≡ pos (getD weights i 0)
 
-module _ {cells : List ℤ} {weights : List ℕ} {i net weighted : ℕ} {c w : ℤ} (t : Turn cells weights i net weighted c w) where
-  cell : Held (ofZ w64 c) c 655360000000
-  cell = held c 655360000000 (rw (t .cell-is) (t .args .cells-bound i)) (omega arith)
-
-  weight : Held (ofZ w64 w) w 1000
-  weight = held w 1000 (rw (t .weight-is) (t .args .weights-bound i)) (omega arith)
-
-  product-fits : SFits w64 (toZ w64 (ofZ w64 c) *ℤ toZ w64 (ofZ w64 w))
-  product-fits = times-fits cell weight (omega arith)
-
-  product : Held (ofZ w64 (toZ w64 (ofZ w64 c) *ℤ toZ w64 (ofZ w64 w))) (c *ℤ w) 655360000000000
-  product = times-held cell weight (omega arith)
-
-  weighted-fits : SFits w64 (toZ w64 weighted +ℤ toZ w64 (ofZ w64 (toZ w64 (ofZ w64 c) *ℤ toZ w64 (ofZ w64 w))))
-  weighted-fits = plus-fits (t .weighted-held) product (omega (arith, t .class-bound))
-
+module _ {cells : List ℤ} {weights : List ℕ} {i net weighted : ℕ} {c : ℤ} (t : Turn cells weights i net weighted c) where
   bound-next : (B : ℕ) → (i + 1) * B ≡ i * B + B
   bound-next B = omega arith
 
   in-cells : i < length (roundedFrom 0 cells)
   in-cells = omega (arith, whole-length 0 cells, t .class-bound, t .args .cells-long)
 
-  next-weighted : WeightedHeld cells weights (i + 1) (ofZ w64 (toZ w64 weighted +ℤ toZ w64 (ofZ w64 (toZ w64 (ofZ w64 c) *ℤ toZ w64 (ofZ w64 w)))))
-  next-weighted =
-      let in-weights : i < length weights = omega (arith, t .class-bound, t .args .weights-long) in
-      rw (bound-next, add-one, weighted-next (roundedFrom 0 cells) weights i in-cells in-weights, ← (t .cell-is), ← (t .weight-is))
-      (plus-held (t .weighted-held) product (omega (arith, t .class-bound)))
+  small : natAbs c ≤ 655360000000
+  small = rw (t .cell-is) (t .args .cells-bound i)
 
-  -- an import cell is added to n, and an export cell subtracted
-  next-import : i / 4 % 2 ≡ 0 → NetHeld cells (i + 1) (ofZ w64 (toZ w64 net +ℤ toZ w64 (ofZ w64 c)))
-  next-import d =
-      rw (bound-next, add-one, net-next (roundedFrom 0 cells) i in-cells, ← (t .cell-is), eq-eqb (i / 4 % 2) 0 d)
-      (plus-held (t .net-held) cell (omega (arith, t .class-bound)))
+  cell : Held (ofZ w64 c) c 655360000000
+  cell = held c 655360000000 small (omega arith)
 
-  next-export : (i / 4 % 2 ≡ 0 → ⊥) → NetHeld cells (i + 1) (ofZ w64 (toZ w64 net -ℤ toZ w64 (ofZ w64 c)))
-  next-export d =
-      rw (bound-next, add-one, net-next (roundedFrom 0 cells) i in-cells, ← (t .cell-is), ne-eqb (i / 4 % 2) 0 d)
-      (minus-held (t .net-held) cell (omega (arith, t .class-bound)))
+  -- the cell with its sign, d, goes into n
+  module _ {d : ℤ} (e : d ≡ byDirection i c) where
+    directed : Held (ofZ w64 d) d 655360000000
+    directed = held d 655360000000 (rw (e, direction-size i c) small) (omega arith)
+
+    net-fits : SFits w64 (toZ w64 net +ℤ toZ w64 (ofZ w64 d))
+    net-fits = plus-fits (t .net-held) directed (omega (arith, t .class-bound))
+
+    next-net : NetHeld cells (i + 1) (ofZ w64 (toZ w64 net +ℤ toZ w64 (ofZ w64 d)))
+    next-net =
+        rw (bound-next, add-one, net-next (roundedFrom 0 cells) i in-cells, ← (t .cell-is), ← e)
+        (plus-held (t .net-held) directed (omega (arith, t .class-bound)))
+
+  -- and times its weight, w, into a
+  module _ {w : ℤ} (e : w ≡ pos (getD weights i 0)) where
+    weight : Held (ofZ w64 w) w 1000
+    weight = held w 1000 (rw e (t .args .weights-bound i)) (omega arith)
+
+    product-fits : SFits w64 (toZ w64 (ofZ w64 c) *ℤ toZ w64 (ofZ w64 w))
+    product-fits = times-fits cell weight (omega arith)
+
+    product : Held (ofZ w64 (toZ w64 (ofZ w64 c) *ℤ toZ w64 (ofZ w64 w))) (c *ℤ w) 655360000000000
+    product = times-held cell weight (omega arith)
+
+    weighted-fits : SFits w64 (toZ w64 weighted +ℤ toZ w64 (ofZ w64 (toZ w64 (ofZ w64 c) *ℤ toZ w64 (ofZ w64 w))))
+    weighted-fits = plus-fits (t .weighted-held) product (omega (arith, t .class-bound))
+
+    next-weighted : WeightedHeld cells weights (i + 1) (ofZ w64 (toZ w64 weighted +ℤ toZ w64 (ofZ w64 (toZ w64 (ofZ w64 c) *ℤ toZ w64 (ofZ w64 w)))))
+    next-weighted =
+        let in-weights : i < length weights = omega (arith, t .class-bound, t .args .weights-long) in
+        rw (bound-next, add-one, weighted-next (roundedFrom 0 cells) weights i in-cells in-weights, ← (t .cell-is), ← e)
+        (plus-held (t .weighted-held) product (omega (arith, t .class-bound)))
 
 -- past the last class
 module _ (cells : List ℤ) (weights : List ℕ) (i net weighted : ℕ) (args : UnitArguments cells weights) (past : 24 ≤ i) where
@@ -102,6 +106,37 @@ array-copy-out-whole-cell c = omega arith
 whole-cell-requires : tie.Need-whole-cell-requires Inv-loop μ-loop
 whole-cell-requires c κs = tt
 
+module _ (c : tie.After-whole-cell Inv-loop μ-loop) where
+  turn : Turn
+      (c .before .before .before .before .args .t1)
+      (c .before .before .before .before .args .weights .now)
+      (c .before .before .before .loop .class)
+      (c .before .before .before .loop .net)
+      (c .before .before .before .loop .weighted)
+      (c .whole-cell .result)
+  turn =
+      let s = c .before .before .before .before in
+      let l = c .before .before .before .loop in
+      record {
+        args = s .pre;
+        class-bound = omega arith;
+        net-held = l .inv .1 .0;
+        weighted-held = l .inv .1 .1;
+        cell-is =
+            rw (whole-entry (s .args .t1) (l .class) (omega (arith, s .pre .cells-long)))
+            (rw (toZ-ofZ w64 _ (record { sfits = c .before .whole-cell-arg .given })) at (c .whole-cell .ensures));
+      }
+
+by-direction-requires : tie.Need-by-direction-requires Inv-loop μ-loop
+by-direction-requires c κs = rw (cell (turn c) .reads) (omega (arith, small (turn c)))
+
+module _ (c : tie.After-by-direction Inv-loop μ-loop) where
+  directed-is : c .by-direction .result ≡ byDirection (c .before .before .before .before .loop .class) (c .before .whole-cell .result)
+  directed-is = rw (cell (turn (c .before)) .reads) at (c .by-direction .ensures)
+
+add-net : tie.Need-add-net Inv-loop μ-loop
+add-net c = net-fits (turn (c .before)) (directed-is c)
+
 mul-signed : tie.Need-mul-signed Inv-loop μ-loop
 mul-signed c = omega arith
 
@@ -111,40 +146,11 @@ element-copy-out-signed c = omega arith
 signed-requires : tie.Need-signed-requires Inv-loop μ-loop
 signed-requires c κs = tt
 
-module _ (c : tie.After-signed Inv-loop μ-loop) where
-  turn : Turn
-      (c .before .before .before .before .before .before .args .t1)
-      (c .before .before .before .before .before .before .args .weights .now)
-      (c .before .before .before .before .before .loop .class)
-      (c .before .before .before .before .before .loop .net)
-      (c .before .before .before .before .before .loop .weighted)
-      (c .before .before .whole-cell .result)
-      (c .signed .result)
-  turn =
-      let s = c .before .before .before .before .before .before in
-      let l = c .before .before .before .before .before .loop in
-      record {
-        args = s .pre;
-        class-bound = omega arith;
-        net-held = l .inv .1 .0;
-        weighted-held = l .inv .1 .1;
-        cell-is =
-            rw (whole-entry (s .args .t1) (l .class) (omega (arith, s .pre .cells-long)))
-            (rw (toZ-ofZ w64 _ (record { sfits = c .before .before .before .whole-cell-arg .given })) at (c .before .before .whole-cell .ensures));
-        weight-is = c .signed .ensures;
-      }
-
 mul-weighted : tie.Need-mul-weighted Inv-loop μ-loop
-mul-weighted c = product-fits (turn c)
+mul-weighted c = product-fits (turn (c .before .before .before)) (c .signed .ensures)
 
 add-weighted : tie.Need-add-weighted Inv-loop μ-loop
-add-weighted c = weighted-fits (turn c)
-
-add-net : tie.Need-add-net Inv-loop μ-loop
-add-net c = let t = turn (c .before) in plus-fits (t .net-held) (cell t) (omega arith)
-
-sub-net : tie.Need-sub-net Inv-loop μ-loop
-sub-net c = let t = turn (c .before) in minus-fits (t .net-held) (cell t) (omega arith)
+add-weighted c = weighted-fits (turn (c .before .before .before)) (c .signed .ensures)
 
 add-class : tie.Need-add-class Inv-loop μ-loop
 add-class c = omega arith
@@ -154,8 +160,8 @@ loop-less c = omega arith
 
 loop-again : tie.Need-loop-again Inv-loop μ-loop
 loop-again c =
-    let t = turn (c .before) in
-    (omega arith, (⊎-elim (λ w. rw (w .1) (next-import t (w .0 .taken))) (λ w. rw (w .1) (next-export t (w .0 .left))) (c .if1 .came), next-weighted t))
+    let t = turn (c .before .before .before) in
+    (omega arith, (next-net t (directed-is (c .before .before)), next-weighted t (c .signed .ensures)))
 
 returns : tie.Need-returns Inv-loop μ-loop
 returns c =
@@ -172,13 +178,13 @@ unit-sums-spec =
     mul-whole-cell
     array-copy-out-whole-cell
     whole-cell-requires
+    by-direction-requires
+    add-net
     mul-signed
     element-copy-out-signed
     signed-requires
     mul-weighted
     add-weighted
-    add-net
-    sub-net
     add-class
     loop-less
     loop-again

@@ -1,39 +1,24 @@
 -- `set_tolerance` gives the outcome of its call: a refusal, or the book in which the tolerance is replaced. Assumes nothing.
-use Rattle.book.specs.Calls.{tolerance, withSetting}
-use Rattle.book.proofs.Answers.{setting-refused, setting-made, setting-in-range}
-use native.Mathlib.Omega.{arith}
-use borrow.Author.Tests.{leb-true}
-use Rattle.book.specs.Limits.{toleranceMost}
+use mathlib.Core.Path.{sym, _∙_}
 use borrow.Author.Needs.{needs}
+use borrow.Author.Tests.{not-true, not-false}
+use Rattle.book.specs.Calls.{tolerance}
+use Rattle.book.proofs.Answers.{setting-on-ill-formed}
 use Rattle.book.proofs.calls.set_tolerance.Statement.{statement}
 use Rattle.book.proofs.calls.set_tolerance.Tie as tie
 
-is-tolerance-requires : tie.Need-is-tolerance-requires
-is-tolerance-requires c κs = search needs
-
-setting-cause-requires : tie.Need-setting-cause-requires
-setting-cause-requires c κs = search needs
+is-formed-requires : tie.Need-is-formed-requires
+is-formed-requires c κs = search needs
 
 returns : tie.Need-returns
-returns c =
-    let a = c .before .before .before .before .args in
-    setting-refused (a .settings) _ (tolerance (a .g)) (c .before .before .is-tolerance .ensures) (c .before .setting-cause .ensures) (c .if1 .taken)
+returns c = setting-on-ill-formed (tolerance _) _ _ (sym (c .before .is-formed .ensures) ∙ not-true _ (c .if1 .taken))
 
-cast-made : tie.Need-cast-made
-cast-made c =
-    let a = c .before .before .before .before .args in
-    omega (
-      arith,
-      leb-true (a .g) toleranceMost
-          (setting-in-range (a .settings) _ (tolerance (a .g)) (c .before .before .is-tolerance .ensures) (c .before .setting-cause .ensures) (c .if1 .left)),
-    )
+replace-tolerance-requires : tie.Need-replace-tolerance-requires
+replace-tolerance-requires c κs = search needs
 
 returns-2 : tie.Need-returns-2
-unfolding withSetting
 returns-2 c =
-    let a = c .before .before .before .before .args in
-    setting-made (a .settings) _ (tolerance (a .g)) (c .before .before .is-tolerance .ensures) (c .before .setting-cause .ensures) (c .if1 .left)
+    c .replace-tolerance .ensures .gives _ (sym (c .before .before .is-formed .ensures) ∙ not-false _ (c .before .if1 .left))
 
 pub set-tolerance-spec : {M : Type 1} → statement M
-set-tolerance-spec =
-    tie.close (tie.spec is-tolerance-requires setting-cause-requires returns cast-made returns-2)
+set-tolerance-spec = tie.close (tie.spec is-formed-requires returns replace-tolerance-requires returns-2)

@@ -1,0 +1,156 @@
+use Prim.Native.Nat.{ℕ, _-_, _*_, _/_, _≤_}
+use mathlib.Core.Path.{_≡_, _∙_}
+use mathlib.Core.List.{List}
+use mathlib.Core.Logic.{⊎-elim}
+use native.Mathlib.Omega.{arith}
+use lib.ListN.{length, getD, take, drop, length-set}
+use Rattle.book.specs.Contracts.{lent}
+use Rattle.book.proofs.WellFormed.{rows-ready}
+use Rattle.settlement.specs.Listed.{callWords}
+use Rattle.settlement.proofs.ListMade.{Made, none-made, part-long, part-kind, row-call-made, setting-call-made, list-made}
+use Rattle.settlement.proofs.list.make_each.Statement.{statement}
+use Rattle.settlement.proofs.list.make_each.Tie as tie
+
+abbrev Inv-loop : tie.InvT-loop
+Inv-loop rows₀ calls numbers₀ count made₀ i₀ rows numbers made i =
+    (i ≤ count) × (length rows ≡ length rows₀) × (length numbers ≡ length numbers₀) × Made (lent made₀ rows₀) calls numbers₀ i (lent made rows) numbers
+
+abbrev μ-loop : tie.MeasureT-loop
+μ-loop rows₀ calls numbers₀ count made₀ i₀ rows numbers made i = count - i
+
+loop-holds : tie.Need-loop-holds Inv-loop μ-loop
+loop-holds c =
+    let s = c .before .before .before in
+    (omega arith, omega arith, omega arith, none-made _ _ _ (s .pre .0))
+
+mul-at : tie.Need-mul-at Inv-loop μ-loop
+mul-at c = omega arith
+
+mul-kind : tie.Need-mul-kind Inv-loop μ-loop
+mul-kind c = omega arith
+
+shared-slice-read-kind : tie.Need-shared-slice-read-kind Inv-loop μ-loop
+shared-slice-read-kind c = omega arith
+
+mul-row-call : tie.Need-mul-row-call Inv-loop μ-loop
+mul-row-call c = omega arith
+
+sub-row-call : tie.Need-sub-row-call Inv-loop μ-loop
+sub-row-call c = omega arith
+
+part-row-call-start : tie.Need-part-row-call-start Inv-loop μ-loop
+part-row-call-start c = omega arith
+
+part-row-call-end : tie.Need-part-row-call-end Inv-loop μ-loop
+part-row-call-end c = omega arith
+
+-- the part from the call on that is made in a turn
+abbrev calls-of : tie.In-loop Inv-loop μ-loop → List ℕ
+calls-of c = c .before .before .before .before .before .args .calls .now
+
+first-call : (c : tie.In-loop Inv-loop μ-loop) → callWords ≤ length (take (length (calls-of c) - callWords * c .before .loop .i) (drop (callWords * c .before .loop .i) (calls-of c)))
+first-call c = part-long (calls-of c) (c .before .loop .i) (c .loop-test .taken)
+
+kind-there : (c : tie.In-loop Inv-loop μ-loop) → getD (take (length (calls-of c) - callWords * c .before .loop .i) (drop (callWords * c .before .loop .i) (calls-of c))) 0 0 ≡ getD (calls-of c) (callWords * c .before .loop .i) 0
+kind-there c = part-kind (calls-of c) (c .before .loop .i)
+
+row-call-requires : tie.Need-row-call-requires Inv-loop μ-loop
+row-call-requires c κs =
+    let turn = c .before .before .before .before in
+    (rows-ready _ _ (turn .before .loop .inv .3 .formed), (first-call turn, rw (kind-there turn) (c .before .before .if1 .taken)))
+
+mul-numbers : tie.Need-mul-numbers Inv-loop μ-loop
+mul-numbers c = omega arith
+
+slice-write-numbers : tie.Need-slice-write-numbers Inv-loop μ-loop
+slice-write-numbers c = omega arith
+
+mul-setting-call : tie.Need-mul-setting-call Inv-loop μ-loop
+mul-setting-call c = omega arith
+
+sub-setting-call : tie.Need-sub-setting-call Inv-loop μ-loop
+sub-setting-call c = omega arith
+
+part-setting-call-start : tie.Need-part-setting-call-start Inv-loop μ-loop
+part-setting-call-start c = omega arith
+
+part-setting-call-end : tie.Need-part-setting-call-end Inv-loop μ-loop
+part-setting-call-end c = omega arith
+
+setting-call-requires : tie.Need-setting-call-requires Inv-loop μ-loop
+setting-call-requires c κs =
+    let turn = c .before .before .before in
+    (first-call turn, rw (kind-there turn) (c .before .if1 .left))
+
+mul-numbers-2 : tie.Need-mul-numbers-2 Inv-loop μ-loop
+mul-numbers-2 c = omega arith
+
+slice-write-numbers-2 : tie.Need-slice-write-numbers-2 Inv-loop μ-loop
+slice-write-numbers-2 c = omega arith
+
+add-i : tie.Need-add-i Inv-loop μ-loop
+add-i c = omega arith
+
+loop-less : tie.Need-loop-less Inv-loop μ-loop
+loop-less c = omega arith
+
+loop-again : tie.Need-loop-again Inv-loop μ-loop
+loop-again c =
+    let head = c .before .before .before .loop in
+    ⊎-elim
+    (λ w. rw (w .6, w .7, w .8) (
+      omega arith,
+      w .3 .kept .1 .0 ∙ head .inv .1,
+      simp length-set (head .inv .2),
+      row-call-made (head .inv .3) (omega arith) (w .3 .ensures),
+    ))
+    (λ w. rw (w .4, w .5, w .6) (
+      omega arith,
+      head .inv .1,
+      simp length-set (head .inv .2),
+      setting-call-made (head .inv .3) (omega arith) (w .2 .ensures),
+    ))
+    (c .if1 .came)
+
+same-length : tie.Need-same-length Inv-loop μ-loop
+same-length c = c .before .loop .inv .1
+
+same-length-2 : tie.Need-same-length-2 Inv-loop μ-loop
+same-length-2 c = c .before .loop .inv .2
+
+returns : tie.Need-returns Inv-loop μ-loop
+returns c =
+    let s = c .before .before .before .before .before in
+    let all : c .before .loop .i ≡ length (s .args .calls .now) / callWords = omega arith in
+    list-made _ _ _ _ (rw all at (c .before .loop .inv .3))
+
+pub make-each-spec : {M : Type 1} → statement M
+make-each-spec =
+    tie.close
+    (tie.spec
+    Inv-loop
+    μ-loop
+    loop-holds
+    mul-at
+    mul-kind
+    shared-slice-read-kind
+    mul-row-call
+    sub-row-call
+    part-row-call-start
+    part-row-call-end
+    row-call-requires
+    mul-numbers
+    slice-write-numbers
+    mul-setting-call
+    sub-setting-call
+    part-setting-call-start
+    part-setting-call-end
+    setting-call-requires
+    mul-numbers-2
+    slice-write-numbers-2
+    add-i
+    loop-less
+    loop-again
+    same-length
+    same-length-2
+    returns)

@@ -1,0 +1,63 @@
+-- `row_call` leaves what the call of its kind leaves on a well-formed book, with the arguments that stand after the kind. Assumes nothing.
+use borrow.Author.Needs.{needs}
+use Rattle.settlement.proofs.CallOf.{call-register, call-reading, reading-kind, stores-register, stores-reading}
+use Rattle.settlement.proofs.list.row_call.Statement.{statement}
+use Rattle.settlement.proofs.list.row_call.Tie as tie
+
+shared-slice-read-mpan : tie.Need-shared-slice-read-mpan
+shared-slice-read-mpan c = search needs
+
+shared-slice-read-if1 : tie.Need-shared-slice-read-if1
+shared-slice-read-if1 c = search needs
+
+registration-of-requires : tie.Need-registration-of-requires
+registration-of-requires c κs = search needs
+
+store-registration-requires : tie.Need-store-registration-requires
+store-registration-requires c κs = search needs
+
+same-length : tie.Need-same-length
+same-length c = search needs
+
+returns : tie.Need-returns
+returns c =
+    let stored = c .before .before in
+    let taken = stored .before .before .before in
+    stores-register (taken .before .before .before .before .before .args .call .now)
+    (call-register _ (taken .if1 .taken))
+    (stored .before .registration-of .ensures)
+    (stored .store-registration .ensures)
+
+reading-of-requires : tie.Need-reading-of-requires
+reading-of-requires c κs = search needs
+
+store-reading-requires : tie.Need-store-reading-requires
+store-reading-requires c κs = search needs
+
+same-length-2 : tie.Need-same-length-2
+same-length-2 c = search needs
+
+returns-2 : tie.Need-returns-2
+returns-2 c =
+    let stored = c .before .before in
+    let left = stored .before .before .before in
+    let s = left .before .before .before .before .before in
+    stores-reading (s .args .call .now)
+    (call-reading _ (reading-kind (s .args .call .now) (s .pre .1 .1) (left .if1 .left)))
+    (stored .before .reading-of .ensures)
+    (stored .store-reading .ensures)
+
+pub row-call-spec : {M : Type 1} → statement M
+row-call-spec =
+    tie.close
+    (tie.spec
+    shared-slice-read-mpan
+    shared-slice-read-if1
+    registration-of-requires
+    store-registration-requires
+    same-length
+    returns
+    reading-of-requires
+    store-reading-requires
+    same-length-2
+    returns-2)

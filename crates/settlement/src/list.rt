@@ -1,0 +1,206 @@
+// A whole list of calls in one call. The calls stand in a slice, ten words a call: its kind, then its arguments.
+use book::Answer;
+use book::Settings;
+use book::Stored;
+use book::calls::ACCEPTED;
+use book::calls::ARGUMENT_OUT_OF_RANGE;
+use book::calls::BOOK_ILL_FORMED;
+use book::formed::is_formed;
+use book::replace::replace_shape;
+use book::replace::replace_take;
+use book::replace::replace_tolerance;
+use book::replace::replace_weight;
+use book::store::store_reading;
+use book::store::store_registration;
+use words::Reading;
+use words::Registration;
+ghost use mathlib.Core.Path.{_≡_};
+ghost use mathlib.Core.Bool.{true, false, _||_};
+ghost use mathlib.Core.List.{_++_};
+ghost use Prim.Native.Nat.{_/_, _≤_};
+ghost use lib.Dec.{eqb};
+ghost use lib.ListN.{length, getD, drop, replicate};
+ghost use Rattle.book.specs.Book.{wellFormed};
+ghost use Rattle.book.specs.Causes.{accepted};
+ghost use Rattle.book.specs.Calls.{callOutcome};
+ghost use Rattle.book.specs.Contracts.{lent, RowsReady, Stores, Sets};
+ghost use Rattle.settlement.specs.Listed.{callWords, registerKind, readingKind, signedOf, callOf, listOutcome, listCall, ListGives};
+
+pub const CALL_WORDS: usize = 10;
+
+// The kinds of call.
+
+pub const REGISTER: u64 = 1;
+
+pub const READING: u64 = 2;
+
+pub const SHAPE: u64 = 3;
+
+pub const WEIGHT: u64 = 4;
+
+pub const TOLERANCE: u64 = 5;
+
+pub const TAKE: u64 = 6;
+
+// A calls slice that is no whole number of calls, or a numbers slice that is too short.
+pub const LIST_MISSHAPEN: u64 = 19;
+
+// The first word that stands for a negative number, and the one that stands for -1.
+
+const NEGATIVE_FROM: u64 = 9_223_372_036_854_775_808;
+
+const MINUS_ONE: u64 = 18_446_744_073_709_551_615;
+
+// The signed number that a word stands for in two's complement.
+fn signed_of(w: u64) -> i64
+    ensures { λ r. ⌜ r ≡ signedOf w ⌝ }
+{
+    if w < NEGATIVE_FROM {
+        w as i64
+    } else {
+        -1 - (MINUS_ONE - w) as i64
+    }
+}
+
+// The first `count` numbers replaced by one number.
+fn fill(numbers: &mut [u64], count: usize, number: u64)
+    requires { ⌜ count ≤ length (now numbers) ⌝ }
+    ensures { λ r. ⌜ now (numbers .exit) ≡ replicate count number ++ drop count (now (numbers .entry)) ⌝ }
+{
+    let mut i = 0;
+    while i < count {
+        numbers[i] = number;
+        i += 1;
+    }
+}
+
+// The registration that a register call gives.
+fn registration_of(call: &[u64]) -> Registration
+    requires { ⌜ 10 ≤ length (now call) ⌝ }
+    ensures { λ r. ⌜ r ≡ record { segment = getD (now (call .entry)) 2 0; direction = getD (now (call .entry)) 3 0; status = getD (now (call .entry)) 4 0; base = getD (now (call .entry)) 5 0; flag = getD (now (call .entry)) 6 0; additional = getD (now (call .entry)) 7 0; category = getD (now (call .entry)) 8 0; llf = getD (now (call .entry)) 9 0 } ⌝ }
+{
+    Registration {
+        segment: call[2],
+        direction: call[3],
+        status: call[4],
+        base: call[5],
+        flag: call[6],
+        additional: call[7],
+        category: call[8],
+        llf: call[9],
+    }
+}
+
+// The reading that a reading call gives.
+fn reading_of(call: &[u64]) -> Reading
+    requires { ⌜ 10 ≤ length (now call) ⌝ }
+    ensures { λ r. ⌜ r ≡ record { issue = getD (now (call .entry)) 2 0; quality = getD (now (call .entry)) 3 0; consumption = getD (now (call .entry)) 4 0 } ⌝ }
+{
+    Reading {
+        issue: call[2],
+        quality: call[3],
+        consumption: call[4],
+    }
+}
+
+// Makes a register or reading call on the rows of a book that was tested before.
+fn row_call(meters: usize, rows: &mut [u64], call: &[u64]) -> Stored
+    requires { ⌜ RowsReady meters (now rows) ⌝ ∗ ⌜ 10 ≤ length (now call) ⌝ ∗ ⌜ (eqb (getD (now call) 0 0) registerKind || eqb (getD (now call) 0 0) readingKind) ≡ true ⌝ }
+    ensures { λ r. ⌜ Stores (λ b. callOutcome b (callOf (now (call .entry)))) meters (now (rows .entry)) (r .number) (r .meters) (now (rows .exit)) ⌝ }
+{
+    let mpan = call[1];
+    if call[0] == REGISTER {
+        return store_registration(meters, rows, mpan, registration_of(call));
+    }
+    let number = store_reading(meters, rows, mpan, reading_of(call));
+    Stored { number, meters }
+}
+
+// Makes any other call on the settings of a book that was tested before. An unknown kind is an argument out of range.
+fn setting_call(settings: Settings, call: &[u64]) -> Answer
+    requires { ⌜ 10 ≤ length (now call) ⌝ ∗ ⌜ (eqb (getD (now call) 0 0) registerKind || eqb (getD (now call) 0 0) readingKind) ≡ false ⌝ }
+    ensures { λ r. ⌜ Sets (λ b. callOutcome b (callOf (now (call .entry)))) settings r ⌝ }
+{
+    let kind = call[0];
+    let first = call[1];
+    if kind == SHAPE {
+        return replace_shape(settings, first, call[2]);
+    }
+    if kind == WEIGHT {
+        return replace_weight(settings, first, call[2]);
+    }
+    if kind == TOLERANCE {
+        return replace_tolerance(settings, first);
+    }
+    if kind == TAKE {
+        return replace_take(settings, signed_of(first));
+    }
+    Answer {
+        number: ARGUMENT_OUT_OF_RANGE,
+        settings,
+    }
+}
+
+// Makes each call of a list in turn, on a book that was tested before: accepted calls keep it well formed, so no call tests it again.
+// A register or reading call changes no setting but the number of meters, so the settings are not copied for it.
+fn make_each(settings: Settings, rows: &mut [u64], calls: &[u64], numbers: &mut [u64]) -> Answer
+    requires { ⌜ wellFormed (lent settings (now rows)) ≡ true ⌝ ∗ ⌜ length (now calls) / callWords ≤ length (now numbers) ⌝ }
+    ensures { λ r.
+        ⌜ ListGives (listOutcome accepted (lent settings (now (rows .entry))) (now (calls .entry)) (now (numbers .entry))) r (now (rows .exit)) (now (numbers .exit)) ⌝ }
+{
+    let count = calls.len() / CALL_WORDS;
+    let mut made = settings;
+    let mut i = 0;
+    while i < count {
+        let at = CALL_WORDS * i;
+        let kind = calls[at];
+        if (kind == REGISTER) | (kind == READING) {
+            let stored = row_call(made.meters, rows, &calls[at..]);
+            made.meters = stored.meters;
+            numbers[i] = stored.number;
+        } else {
+            let answer = setting_call(made, &calls[at..]);
+            numbers[i] = answer.number;
+            made = answer.settings;
+        }
+        i += 1;
+    }
+    Answer {
+        number: ACCEPTED,
+        settings: made,
+    }
+}
+
+// Makes the calls of a list in order, as making them one by one does, and writes their numbers. The book is tested once;
+// if it is ill formed, every call is refused for it.
+pub fn make_calls(
+    settings: Settings,
+    rows: &mut [u64],
+    calls: &[u64],
+    numbers: &mut [u64],
+) -> Answer
+    ensures { λ r.
+        ⌜ ListGives (listCall (lent settings (now (rows .entry))) (now (calls .entry)) (now (numbers .entry))) r (now (rows .exit)) (now (numbers .exit)) ⌝ }
+{
+    let count = calls.len() / CALL_WORDS;
+    if calls.len() % CALL_WORDS != 0 {
+        return Answer {
+            number: LIST_MISSHAPEN,
+            settings,
+        };
+    }
+    if numbers.len() < count {
+        return Answer {
+            number: LIST_MISSHAPEN,
+            settings,
+        };
+    }
+    if !is_formed(settings, rows) {
+        fill(numbers, count, BOOK_ILL_FORMED);
+        return Answer {
+            number: ACCEPTED,
+            settings,
+        };
+    }
+    make_each(settings, rows, calls, numbers)
+}
