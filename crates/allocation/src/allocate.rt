@@ -29,7 +29,7 @@ pub const WEIGHTED_BELOW_ONE: u64 = 10;
 pub const TOLERANCE_EXCEEDED: u64 = 11;
 
 // A refusal's number, with U, W and the counts at 0.
-fn refused(number: u64) -> Allocated
+pub fn refused(number: u64) -> Allocated
     ensures { λ r. ⌜ r ≡ refusedWith number ⌝ }
 {
     Allocated {

@@ -8,6 +8,7 @@ pub mod shares;
 pub mod sums;
 
 // The number given, U and W, and the four counts; zeros beside a refusal's number.
+#[repr(C)]
 pub struct Allocated {
     pub number: u64,
     pub unallocated: i64,
@@ -19,6 +20,7 @@ pub struct Allocated {
 }
 
 // What the allocate call answers: its figures, and the settings as they were given.
+#[repr(C)]
 pub struct AllocationAnswer {
     pub answer: Allocated,
     pub settings: Settings,

@@ -9,6 +9,7 @@ pub mod rows;
 pub mod store;
 
 // The settings, passed in and returned.
+#[repr(C)]
 pub struct Settings {
     pub meters: usize,
     pub weights: [u32; 24],
@@ -19,6 +20,7 @@ pub struct Settings {
 }
 
 // What a call that writes the book answers: 0 or the number of its refusal, and the settings.
+#[repr(C)]
 pub struct Answer {
     pub number: u64,
     pub settings: Settings,

@@ -24,3 +24,4 @@ pub mod ListMade
 pub mod Meant
 pub mod Moved
 pub mod Settles
+pub mod HalfHour

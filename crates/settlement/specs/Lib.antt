@@ -3,3 +3,4 @@ pub mod Meaning
 pub mod Demand
 pub mod Cases
 pub mod Listed
+pub mod Settle

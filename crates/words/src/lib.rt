@@ -14,6 +14,7 @@ pub const MPAN_MAX: u64 = 9_999_999_999_999;
 pub const NO_READING: u64 = 0;
 
 // How a meter is registered, as numbers of the full width, so that one out of range is seen and never cut.
+#[repr(C)]
 pub struct Registration {
     pub segment: u64,
     pub direction: u64,
@@ -26,6 +27,7 @@ pub struct Registration {
 }
 
 // A reading: its issue number, its quality code and the consumption in Wh.
+#[repr(C)]
 pub struct Reading {
     pub issue: u64,
     pub quality: u64,
