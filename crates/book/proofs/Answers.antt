@@ -12,7 +12,7 @@ use Rattle.book.specs.Limits.{classes, categories, weightMost, shapeMost
 use Rattle.book.specs.declared.Settings.{Settings}
 use Rattle.book.specs.Book.{Book, wellFormed}
 use Rattle.book.specs.Causes.{refuse, accepted, bookIllFormed, argumentOutOfRange}
-use Rattle.book.specs.Calls.{Setting, shape, weight, Outcome, outcome, settingInRange, withSetting, settingCause, settingCall}
+use Rattle.book.specs.Calls.{Setting, shape, weight, outcome, settingInRange, withSetting, settingCause, settingCall}
 use Rattle.book.specs.Contracts.{lent, Gives, Sets}
 
 -- a refusal gives its number, the settings and the rows as they were

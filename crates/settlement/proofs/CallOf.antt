@@ -3,38 +3,20 @@ use Prim.Native.Nat.{ℕ}
 use mathlib.Core.Path.{_≡_, refl}
 use mathlib.Core.Bool.{Bool, true, false, _||_, true≢false}
 use mathlib.Core.List.{List}
-use borrow.Author.Tests.{eqb-true, eqb-false, ne-eqb, eq-eqb}
+use borrow.Author.Tests.{eqb-true, ne-eqb}
 use lib.Dec.{eqb}
-use lib.IntN.{ℤ}
 use lib.ListN.{getD}
 use Rattle.words.specs.declared.Registration.{Registration}
 use Rattle.words.specs.declared.Reading.{Reading}
 use Rattle.book.specs.declared.Settings.{Settings}
 use Rattle.book.specs.declared.Answer.{Answer}
-use Rattle.book.specs.Calls.{Setting, shape, weight, tolerance, groupTake, Call, register, reading, setting, registerCall, readingCall, settingCall, callOutcome}
+use Rattle.book.specs.Calls.{Setting, shape, weight, tolerance, groupTake, register, reading, setting, registerCall, readingCall, settingCall, callOutcome}
 use Rattle.book.specs.Contracts.{Stores, Sets}
-use Rattle.settlement.specs.Listed.{registerKind, readingKind, shapeKind, weightKind, toleranceKind, takeKind, signedOf, unknownKind, callOf}
+use Rattle.settlement.specs.Listed.{registerKind, readingKind, shapeKind, weightKind, toleranceKind, takeKind, signedOf, unknownKind, registrationIn, readingIn, callOf, writesRows}
 
 neither : (a b : Bool) → (a || b) ≡ false → (a ≡ false) × (b ≡ false)
 neither true b h = absurd (true≢false h)
 neither false b h = (refl, h)
-
--- the arguments of a register and of a reading call
-abbrev pub registrationIn : List ℕ → Registration
-registrationIn ws =
-    record {
-      segment = getD ws 2 0;
-      direction = getD ws 3 0;
-      status = getD ws 4 0;
-      base = getD ws 5 0;
-      flag = getD ws 6 0;
-      additional = getD ws 7 0;
-      category = getD ws 8 0;
-      llf = getD ws 9 0;
-    }
-
-abbrev pub readingIn : List ℕ → Reading
-readingIn ws = record { issue = getD ws 2 0; quality = getD ws 3 0; consumption = getD ws 4 0 }
 
 module _ (ws : List ℕ) where
   pub call-register : getD ws 0 0 ≡ registerKind → callOf ws ≡ register (getD ws 1 0) (registrationIn ws)
@@ -62,10 +44,10 @@ module _ (ws : List ℕ) where
   call-take h = rw h
 
   -- the kind of a call that writes rows, and of one that does not
-  pub reading-kind : (eqb (getD ws 0 0) registerKind || eqb (getD ws 0 0) readingKind) ≡ true → (getD ws 0 0 ≡ registerKind → ⊥) → getD ws 0 0 ≡ readingKind
+  pub reading-kind : writesRows ws ≡ true → (getD ws 0 0 ≡ registerKind → ⊥) → getD ws 0 0 ≡ readingKind
   reading-kind h n = eqb-true (getD ws 0 0) readingKind (rw (ne-eqb (getD ws 0 0) registerKind n) at h)
 
-  module _ (h : (eqb (getD ws 0 0) registerKind || eqb (getD ws 0 0) readingKind) ≡ false) where
+  module _ (h : writesRows ws ≡ false) where
     pub call-unknown : (getD ws 0 0 ≡ shapeKind → ⊥) → (getD ws 0 0 ≡ weightKind → ⊥) → (getD ws 0 0 ≡ toleranceKind → ⊥) → (getD ws 0 0 ≡ takeKind → ⊥) → callOf ws ≡ unknownKind
     unfolding callOf
     call-unknown p q r s =

@@ -1,11 +1,13 @@
 -- A whole list of calls in one call: how the calls stand in a slice of 64-bit words, and what making them gives.
-use Prim.Native.Nat.{ℕ, zero, suc, _+_, _-_, _/_, _%_, _^_}
+use Prim.Native.Nat.{ℕ, zero, suc, _-_, _/_, _%_, _^_}
 use mathlib.Core.Path.{_≡_}
-use mathlib.Core.Bool.{Bool, not, cond}
+use mathlib.Core.Bool.{Bool, not, _||_, cond}
 use mathlib.Core.List.{List, [], _∷_, _++_}
 use lib.Dec.{ltb, eqb}
 use lib.IntN.{ℤ, pos, negsuc}
 use lib.ListN.{length, getD, drop}
+use Rattle.words.specs.declared.Registration.{Registration}
+use Rattle.words.specs.declared.Reading.{Reading}
 use Rattle.book.specs.declared.Answer.{Answer}
 use Rattle.book.specs.Limits.{toleranceMost}
 use Rattle.book.specs.Book.{Book}
@@ -42,12 +44,10 @@ signedOf w = cond (ltb w (2 ^ 63)) (pos w) (negsuc (2 ^ 64 - suc w))
 abbrev pub unknownKind : Call
 unknownKind = setting (tolerance (suc toleranceMost))
 
--- the call that stands first in a slice
-unfoldable pub callOf : List ℕ → Call
-callOf ws =
-    cond (eqb (getD ws 0 0) registerKind)
-    (register (getD ws 1 0)
-    (record {
+-- the arguments of a register call, and of a reading call, after the MPAN
+abbrev pub registrationIn : List ℕ → Registration
+registrationIn ws =
+    record {
       segment = getD ws 2 0;
       direction = getD ws 3 0;
       status = getD ws 4 0;
@@ -56,14 +56,25 @@ callOf ws =
       additional = getD ws 7 0;
       category = getD ws 8 0;
       llf = getD ws 9 0;
-    }))
-    (cond (eqb (getD ws 0 0) readingKind)
-    (reading (getD ws 1 0) (record { issue = getD ws 2 0; quality = getD ws 3 0; consumption = getD ws 4 0 }))
+    }
+
+abbrev pub readingIn : List ℕ → Reading
+readingIn ws = record { issue = getD ws 2 0; quality = getD ws 3 0; consumption = getD ws 4 0 }
+
+-- the call that stands first in a slice
+unfoldable pub callOf : List ℕ → Call
+callOf ws =
+    cond (eqb (getD ws 0 0) registerKind) (register (getD ws 1 0) (registrationIn ws))
+    (cond (eqb (getD ws 0 0) readingKind) (reading (getD ws 1 0) (readingIn ws))
     (cond (eqb (getD ws 0 0) shapeKind) (setting (shape (getD ws 1 0) (getD ws 2 0)))
     (cond (eqb (getD ws 0 0) weightKind) (setting (weight (getD ws 1 0) (getD ws 2 0)))
     (cond (eqb (getD ws 0 0) toleranceKind) (setting (tolerance (getD ws 1 0)))
     (cond (eqb (getD ws 0 0) takeKind) (setting (groupTake (signedOf (getD ws 1 0))))
     unknownKind)))))
+
+-- whether that call is of a kind that writes rows
+abbrev pub writesRows : List ℕ → Bool
+writesRows ws = eqb (getD ws 0 0) registerKind || eqb (getD ws 0 0) readingKind
 
 -- the first n calls of a slice
 unfoldable pub callsFrom : ℕ → List ℕ → List Call

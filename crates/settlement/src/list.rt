@@ -15,16 +15,15 @@ use book::store::store_registration;
 use words::Reading;
 use words::Registration;
 ghost use mathlib.Core.Path.{_≡_};
-ghost use mathlib.Core.Bool.{true, false, _||_};
+ghost use mathlib.Core.Bool.{true, false};
 ghost use mathlib.Core.List.{_++_};
 ghost use Prim.Native.Nat.{_/_, _≤_};
-ghost use lib.Dec.{eqb};
-ghost use lib.ListN.{length, getD, drop, replicate};
+ghost use lib.ListN.{length, drop, replicate};
 ghost use Rattle.book.specs.Book.{wellFormed};
 ghost use Rattle.book.specs.Causes.{accepted};
 ghost use Rattle.book.specs.Calls.{callOutcome};
 ghost use Rattle.book.specs.Contracts.{lent, RowsReady, Stores, Sets};
-ghost use Rattle.settlement.specs.Listed.{callWords, registerKind, readingKind, signedOf, callOf, listOutcome, listCall, ListGives};
+ghost use Rattle.settlement.specs.Listed.{callWords, signedOf, registrationIn, readingIn, callOf, writesRows, listOutcome, listCall, ListGives};
 
 pub const CALL_WORDS: usize = 10;
 
@@ -76,8 +75,8 @@ fn fill(numbers: &mut [u64], count: usize, number: u64)
 
 // The registration that a register call gives.
 fn registration_of(call: &[u64]) -> Registration
-    requires { ⌜ 10 ≤ length (now call) ⌝ }
-    ensures { λ r. ⌜ r ≡ record { segment = getD (now (call .entry)) 2 0; direction = getD (now (call .entry)) 3 0; status = getD (now (call .entry)) 4 0; base = getD (now (call .entry)) 5 0; flag = getD (now (call .entry)) 6 0; additional = getD (now (call .entry)) 7 0; category = getD (now (call .entry)) 8 0; llf = getD (now (call .entry)) 9 0 } ⌝ }
+    requires { ⌜ callWords ≤ length (now call) ⌝ }
+    ensures { λ r. ⌜ r ≡ registrationIn (now (call .entry)) ⌝ }
 {
     Registration {
         segment: call[2],
@@ -93,8 +92,8 @@ fn registration_of(call: &[u64]) -> Registration
 
 // The reading that a reading call gives.
 fn reading_of(call: &[u64]) -> Reading
-    requires { ⌜ 10 ≤ length (now call) ⌝ }
-    ensures { λ r. ⌜ r ≡ record { issue = getD (now (call .entry)) 2 0; quality = getD (now (call .entry)) 3 0; consumption = getD (now (call .entry)) 4 0 } ⌝ }
+    requires { ⌜ callWords ≤ length (now call) ⌝ }
+    ensures { λ r. ⌜ r ≡ readingIn (now (call .entry)) ⌝ }
 {
     Reading {
         issue: call[2],
@@ -105,7 +104,7 @@ fn reading_of(call: &[u64]) -> Reading
 
 // Makes a register or reading call on the rows of a book that was tested before.
 fn row_call(meters: usize, rows: &mut [u64], call: &[u64]) -> Stored
-    requires { ⌜ RowsReady meters (now rows) ⌝ ∗ ⌜ 10 ≤ length (now call) ⌝ ∗ ⌜ (eqb (getD (now call) 0 0) registerKind || eqb (getD (now call) 0 0) readingKind) ≡ true ⌝ }
+    requires { ⌜ RowsReady meters (now rows) ⌝ ∗ ⌜ callWords ≤ length (now call) ⌝ ∗ ⌜ writesRows (now call) ≡ true ⌝ }
     ensures { λ r. ⌜ Stores (λ b. callOutcome b (callOf (now (call .entry)))) meters (now (rows .entry)) (r .number) (r .meters) (now (rows .exit)) ⌝ }
 {
     let mpan = call[1];
@@ -118,7 +117,7 @@ fn row_call(meters: usize, rows: &mut [u64], call: &[u64]) -> Stored
 
 // Makes any other call on the settings of a book that was tested before. An unknown kind is an argument out of range.
 fn setting_call(settings: Settings, call: &[u64]) -> Answer
-    requires { ⌜ 10 ≤ length (now call) ⌝ ∗ ⌜ (eqb (getD (now call) 0 0) registerKind || eqb (getD (now call) 0 0) readingKind) ≡ false ⌝ }
+    requires { ⌜ callWords ≤ length (now call) ⌝ ∗ ⌜ writesRows (now call) ≡ false ⌝ }
     ensures { λ r. ⌜ Sets (λ b. callOutcome b (callOf (now (call .entry)))) settings r ⌝ }
 {
     let kind = call[0];

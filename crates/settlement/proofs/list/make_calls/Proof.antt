@@ -1,5 +1,6 @@
 -- `make_calls` gives what making the calls one by one gives: a refusal of the slices, a refusal of every call on an ill-formed book, or the calls made in turn. Assumes nothing.
 use mathlib.Core.Path.{_≡_, sym, _∙_}
+use native.Mathlib.Omega.{arith}
 use borrow.Author.Tests.{not-true, not-false}
 use Rattle.book.specs.Causes.{accepted}
 use Rattle.book.specs.Contracts.{lent}
@@ -16,7 +17,9 @@ returns : tie.Need-returns
 returns c = list-broken _ _ _ _ (c .if1 .taken)
 
 returns-2 : tie.Need-returns-2
-returns-2 c = list-without-room _ _ _ _ (c .before .if1 .left) (c .if2 .taken)
+returns-2 c =
+    let a = c .before .before .before .before .before .args in
+    list-without-room (a .settings) (a .rows .now) (a .calls .now) (a .numbers .now) (c .before .if1 .left) (omega (arith, c .if2 .taken))
 
 is-formed-requires : tie.Need-is-formed-requires
 is-formed-requires c κs = search needs

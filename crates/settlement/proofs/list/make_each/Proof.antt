@@ -1,3 +1,4 @@
+-- `make_each` leaves what making the calls one by one leaves: those before `i` are made, and the book is well formed, which the next call keeps. Assumes nothing.
 use Prim.Native.Nat.{ℕ, _-_, _*_, _/_, _≤_}
 use mathlib.Core.Path.{_≡_, _∙_}
 use mathlib.Core.List.{List}

@@ -1,12 +1,12 @@
 -- `signed_of` reads a word as two's complement: below 2^63 it is the number itself, and from there on as far below -1 as the word is below the last one.
 use Prim.Native.Nat.{ℕ, suc, _-_, _^_, _≤_, _<_}
-use mathlib.Core.Path.{_≡_, refl, sym, _∙_}
+use mathlib.Core.Path.{_≡_, sym, _∙_}
 use native.Mathlib.Omega.{arith}
 use borrow.Author.Needs.{needs}
 use borrow.Author.Tests.{le-ltb}
 use lib.IntN.{negsuc, _-ℤ_}
 use mir.Syntax.{w64}
-use mir.Val.{SFits, toZ, ofZ}
+use mir.Val.{toZ}
 use mir.ValLaws.{toZ-ofZ, toZ-pos}
 use Rattle.integers.proofs.Fit.{down-from-minus-one}
 use Rattle.settlement.specs.Listed.{signedOf}
