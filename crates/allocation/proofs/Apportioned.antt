@@ -18,6 +18,10 @@ use Rattle.allocation.specs.declared.UnitSums.{UnitSums}
 use Rattle.allocation.specs.Correction.{units, netIn, weightedIn, unallocatedOf, weightedTotal, shareNumerator, shareFloor, shareFraction}
 use Rattle.allocation.specs.Volumes.{lackingWh}
 
+-- what is read where there is no unit
+abbrev pub noSums : UnitSums
+noSums = record { net = pos 0; weighted = pos 0 }
+
 -- a share rounded down, and its fraction, by the quotient of U × a alone: n is a whole number
 pub share-split : (u w : ℤ) (x : UnitSums) → pos 0 <ℤ w → shareFloor u w x ≡ x .net +ℤ floorOf (u *ℤ x .weighted) (natAbs w)
 unfolding shareFloor shareNumerator

@@ -2,7 +2,7 @@
 use Prim.Native.Nat.{ℕ, suc, _+_, _*_, _-_, _≤_}
 use mathlib.Core.Path.{_≡_, refl}
 use mathlib.Core.Bool.{Bool, true, false, _&&_, cond}
-use mathlib.Core.List.{List, [], _∷_}
+use mathlib.Core.List.{List, [], _∷_, map}
 use native.Mathlib.Omega.{arith}
 use native.Mathlib.Nat.{le-refl}
 use lib.Dec.{eqb}
@@ -17,7 +17,8 @@ use Rattle.words.specs.Registration.{unitOf}
 use Rattle.book.specs.Rows.{Row}
 use Rattle.allocation.specs.Energy.{energyWh}
 use Rattle.allocation.specs.Cells.{consumptionClass, isLossClass, inCell, energyOf, lossThousandths, consumptionCell, lossCell, cell}
-use Rattle.allocation.proofs.Each.{Each, none, also}
+use Rattle.allocation.specs.Contracts.{rawCell}
+use Rattle.allocation.proofs.Each.{Each, no-entry, entry}
 use Rattle.allocation.proofs.RowBounds.{RowBounds}
 use Rattle.allocation.proofs.Totals.{total, total-plus, total-mono, total-const, onlyAt, total-only}
 
@@ -30,32 +31,13 @@ in-cell-most unit class amount r = by (eqb (unitOf (r .registration)) unit && eq
     by true = omega arith
     by false = omega arith
 
--- one cell
-module _ (shapes : List ℕ) (unit class : ℕ) where
-  pub consumption-cell-most : {meters : List Row} → Each (RowBounds shapes) meters → natAbs (consumptionCell shapes meters unit class) ≤ length meters * 10000000
-  unfolding consumptionCell sum
-  consumption-cell-most none = omega arith
-  consumption-cell-most (also {x = r} {xs = meters} b e) =
-      omega (
-        arith,
-        size-plus (inCell unit class (energyOf shapes) r) (consumptionCell shapes meters unit class),
-        in-cell-most unit class (energyOf shapes) r,
-        b .energy,
-        consumption-cell-most e,
-      )
-
-  pub loss-cell-most : {meters : List Row} → Each (RowBounds shapes) meters → natAbs (lossCell shapes meters unit class) ≤ length meters * 10000000000
-  unfolding lossCell sum
-  loss-cell-most none = omega arith
-  loss-cell-most (also {x = r} {xs = meters} b e) =
-      omega (
-        arith,
-        size-plus (inCell unit class (lossThousandths shapes) r) (lossCell shapes meters unit class),
-        in-cell-most unit class (lossThousandths shapes) r,
-        b .energy,
-        b .loss,
-        loss-cell-most e,
-      )
+-- one cell, from what each meter has
+module _ (shapes : List ℕ) (unit class : ℕ) (amount : Row → ℤ) (most : ℕ) (each : (r : Row) → RowBounds shapes r → natAbs (amount r) ≤ most) where
+  cell-most : {meters : List Row} → Each (RowBounds shapes) meters → natAbs (sum (map (inCell unit class amount) meters)) ≤ length meters * most
+  unfolding sum
+  cell-most no-entry = omega arith
+  cell-most (entry {x = r} {xs = meters} b e) =
+      omega (arith, size-plus (inCell unit class amount r) (sum (map (inCell unit class amount) meters)), in-cell-most unit class amount r, each r b, cell-most e)
 
 -- a cell in thousandths of a Wh, before it is rounded
 abbrev pub thousandths : List ℕ → List Row → ℕ → ℕ → ℕ
@@ -71,6 +53,24 @@ cell-thousandths shapes meters unit class = by (isLossClass class)
         ≤ cond t (natAbs (lossCell shapes meters unit (class - 1))) (1000 * natAbs (consumptionCell shapes meters unit class)) + 500
     by true = omega (arith, nearest-size (lossCell shapes meters unit (class - 1)))
     by false = omega arith
+
+module _ (shapes : List ℕ) (unit class : ℕ) {meters : List Row} (e : Each (RowBounds shapes) meters) where
+  pub thousandths-most : thousandths shapes meters unit class ≤ length meters * 10000000000
+  unfolding lossCell consumptionCell
+  thousandths-most = by (isLossClass class)
+    where
+      by : (t : Bool) → cond t (natAbs (lossCell shapes meters unit (class - 1))) (1000 * natAbs (consumptionCell shapes meters unit class)) ≤ length meters * 10000000000
+      by true = cell-most shapes unit (class - 1) (lossThousandths shapes) 10000000000 (λ r b. omega (arith, b .energy, b .loss)) e
+      by false = omega (arith, cell-most shapes unit class (energyOf shapes) 10000000 (λ r b. b .energy) e)
+
+  pub raw-cell-most : natAbs (rawCell shapes meters unit class) ≤ length meters * 10000000000
+  unfolding rawCell
+  raw-cell-most = by (isLossClass class) thousandths-most
+    where
+      by : (t : Bool) → cond t (natAbs (lossCell shapes meters unit (class - 1))) (1000 * natAbs (consumptionCell shapes meters unit class)) ≤ length meters * 10000000000
+          → natAbs (cond t (lossCell shapes meters unit (class - 1)) (consumptionCell shapes meters unit class)) ≤ length meters * 10000000000
+      by true h = h
+      by false h = omega arith
 
 -- what one meter has, by cell: its losses in the class after that of its consumption
 abbrev own : ℕ → ℕ → Row → ℕ → ℕ → ℕ
@@ -158,11 +158,11 @@ module _ (shapes : List ℕ) where
   -- so that over any range of units and of classes the cells hold at most twice 10,000,000 Wh a meter, before rounding
   pub thousandths-total : {meters : List Row} → Each (RowBounds shapes) meters → (j m c n : ℕ)
       → total (λ unit. total (thousandths shapes meters unit) c n) j m ≤ length meters * 20000000000
-  thousandths-total none j m c n =
+  thousandths-total no-entry j m c n =
       let rows : (unit : ℕ) → total (thousandths shapes [] unit) c n ≤ 0 =
       λ unit. omega (arith, total-mono (thousandths shapes [] unit) (λ class. 0) (no-meter unit) c n, total-const 0 c n) in
       omega (arith, total-mono (λ unit. total (thousandths shapes [] unit) c n) (λ unit. 0) rows j m, total-const 0 j m)
-  thousandths-total (also {x = r} {xs = meters} b e) j m c n =
+  thousandths-total (entry {x = r} {xs = meters} b e) j m c n =
       let loss = natAbs (lossThousandths shapes r) in
       let energy = 1000 * energyWh shapes r in
       let one : ℕ → ℕ = onlyAt (unitOf (r .registration)) (loss + energy) in

@@ -4,10 +4,8 @@ use mathlib.Core.Path.{_≡_}
 use mathlib.Core.List.{List, [], _∷_}
 use native.Mathlib.Omega.{arith}
 use lib.ListN.{length}
-use Rattle.book.specs.declared.Settings.{Settings}
 use Rattle.book.specs.Rows.{Row}
 use Rattle.allocation.specs.Energy.{Source, actualReading, estimatedReading, shapeDefault, noEnergy, sourceOf, Counts, countFor, countsOf}
-use Rattle.allocation.specs.Allocate.{figuresOf}
 
 abbrev pub inAll : Counts → ℕ
 inAll c = c .actual + c .estimated + c .defaulted + c .idle
@@ -23,9 +21,3 @@ pub counts-total : (meters : List Row) → inAll (countsOf meters) ≡ length me
 unfolding countsOf
 counts-total [] = omega arith
 counts-total (r ∷ meters) = omega (arith, one-each (sourceOf r), counts-total meters)
-
--- those of an accepted allocation's answer
-pub figures-counts : (s : Settings) (meters : List Row)
-    → figuresOf s meters .actual + figuresOf s meters .estimated + figuresOf s meters .defaulted + figuresOf s meters .idle ≡ length meters
-unfolding figuresOf
-figures-counts s meters = counts-total meters

@@ -1,9 +1,10 @@
--- The numbers 0, 1, .. in order, and what is worked out for each of them: the cells of a unit, the sums of the units.
+-- A list worked out at each of the numbers 0, 1, .. below n: its length, its entries, and that no other list has them. So the cells of a unit, and the sums of the units.
 use Prim.Native.Nat.{ℕ, zero, suc, _+_, _<_}
-use mathlib.Core.Path.{_≡_, refl, ap, _∙_}
+use mathlib.Core.Path.{_≡_, refl, sym, ap, _∙_}
 use mathlib.Core.List.{List, map}
 use native.Mathlib.Omega.{arith}
 use lib.ListN.{length, getD, length-map}
+use lib.Seq.{ext-getD}
 use lib.IntN.{ℤ}
 use Rattle.book.specs.Limits.{classes}
 use Rattle.book.specs.declared.Settings.{Settings}
@@ -12,7 +13,7 @@ use Rattle.allocation.specs.Cells.{countFrom, cell, cellsOf}
 use Rattle.allocation.specs.declared.UnitSums.{UnitSums}
 use Rattle.allocation.specs.Correction.{units, unitSums, allUnitSums}
 
-pub count-length : (k n : ℕ) → length (countFrom k n) ≡ n
+count-length : (k n : ℕ) → length (countFrom k n) ≡ n
 unfolding countFrom
 count-length k zero = refl
 count-length k (suc n) = ap suc (count-length (suc k) n)
@@ -29,6 +30,11 @@ module _ {A : Type 0} (f : ℕ → A) where
 
   pub counted-at : (n i : ℕ) (d : A) → i < n → getD (map f (countFrom 0 n)) i d ≡ f i
   counted-at n i d h = let e : 0 + i ≡ i = omega arith in counted-from 0 n i d h ∙ ap f e
+
+  pub counted-list : (n : ℕ) (xs : List A) (d : A) → length xs ≡ n → ((i : ℕ) → i < n → getD xs i d ≡ f i) → xs ≡ map f (countFrom 0 n)
+  counted-list n xs d long same =
+      ext-getD d xs (map f (countFrom 0 n)) (long ∙ sym (counted-length n))
+      (λ i h. let l : i < n = omega arith in same i l ∙ sym (counted-at n i d l))
 
 pub cells-length : (shapes : List ℕ) (meters : List Row) (unit : ℕ) → length (cellsOf shapes meters unit) ≡ classes
 unfolding cellsOf

@@ -1,30 +1,34 @@
 -- Laws of an allocation's definitions, for this crate's functions and for the crates above.
-pub mod Permuted
-pub mod Counting
-pub mod CountWhere
-pub mod Ranked
-pub mod Rounds
-pub mod Served
-pub mod RoundedVolumes
-pub mod Apportioned
-pub mod VolumesOf
-pub mod AnyOrder
-pub mod Counted
-pub mod Accepted
-pub mod Outcome
+-- lists
 pub mod Each
+pub mod Permuted
+pub mod Entries
+pub mod Counting
+pub mod Filled
+-- from meters to cells
+pub mod Tables
+pub mod Counted
+pub mod OneMore
+pub mod AnyOrder
+-- from cells to sums, and how large they can be
+pub mod RunningSums
 pub mod RowBounds
 pub mod Totals
 pub mod CellBounds
 pub mod SumBounds
 pub mod Bounds
+-- the last watt-hours
 pub mod Quotients
-pub mod Filled
-pub mod RunningSums
+pub mod CountWhere
+pub mod Ranked
 pub mod HandedOut
-pub mod Tables
-pub mod MeterBounds
-pub mod OneMore
+pub mod Served
+pub mod RoundedVolumes
+pub mod Apportioned
+pub mod VolumesOf
 pub mod Apportion
+-- the allocate call
 pub mod Steps
 pub mod Ways
+pub mod Accepted
+pub mod Outcome

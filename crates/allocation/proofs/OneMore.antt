@@ -14,6 +14,7 @@ use lib.Seq.{take-suc}
 use Rattle.integers.specs.Sum.{sum}
 use Rattle.integers.proofs.Sum.{sum-append}
 use Rattle.words.specs.Registration.{unitOf}
+use Rattle.words.proofs.Tests.{same-test}
 use Rattle.words.proofs.RegistrationWord.{unit-bound}
 use Rattle.book.specs.Limits.{classes}
 use Rattle.book.specs.Rows.{Row, firstRow, rowsOf}
@@ -23,7 +24,7 @@ use Rattle.allocation.specs.Cells.{consumptionClass, isLossClass, inCell
 use Rattle.allocation.specs.Correction.{units}
 use Rattle.allocation.specs.Contracts.{sourceNumber, countList, rawCell, tableOf, added}
 use Rattle.allocation.proofs.Tables.{tables-agree, added-table, amountAt}
-use Rattle.allocation.proofs.MeterBounds.{class-even}
+use Rattle.allocation.proofs.Counted.{counts-total}
 
 -- the first i + 1 rows of a slice
 pub rows-more : (i : ℕ) (words : List ℕ) → rowsOf (i + 1) words ≡ rowsOf i words ++ (rowAt words (3 * i) ∷ [])
@@ -54,13 +55,17 @@ raw-cell-more shapes meters r unit class =
     rw (sum-more meters r unit (class - 1) (lossThousandths shapes), sum-more meters r unit class (energyOf shapes))
     (cond-plus (isLossClass class) _ _ _ _)
 
--- two tests of numbers that hold together
-test-same : (a b c d : ℕ) → (a ≡ b → c ≡ d) → (c ≡ d → a ≡ b) → eqb a b ≡ eqb c d
-test-same a b c d f g = by (eqb a b) (eqb-true a b) (eqb-false a b)
-  where
-    by : (t : Bool) → (t ≡ true → a ≡ b) → (t ≡ false → a ≡ b → ⊥) → t ≡ eqb c d
-    by true y n = sym (eq-eqb c d (f (y refl)))
-    by false y n = sym (ne-eqb c d (λ e. n refl (g e)))
+-- the consumption class of a row is even
+class-even : (r : Row) → consumptionClass r % 2 ≡ 0
+unfolding consumptionClass
+class-even r = omega arith
+
+-- the class after k is j exactly if k is the class before j
+class-after : (k j : ℕ) → j % 2 ≡ 1 → eqb (k + 1) j ≡ eqb k (j - 1)
+class-after k j odd =
+    same-test (eqb (k + 1) j) (eqb k (j - 1))
+    (λ t. eq-eqb k (j - 1) (omega (arith, eqb-true (k + 1) j t)))
+    (λ t. eq-eqb (k + 1) j (omega (arith, eqb-true k (j - 1) t)))
 
 -- an even class k and the class k + 1 after it: at any class j, by whether j is odd
 two-classes : (here : Bool) (k j : ℕ) (e l : ℤ) → k % 2 ≡ 0 → cond (here && eqb k j) e (pos 0) +ℤ cond (here && eqb (k + 1) j) l (pos 0) ≡ cond (isLossClass j) (cond (here && eqb k (j - 1)) l (pos 0)) (cond (here && eqb k j) e (pos 0))
@@ -74,7 +79,7 @@ two-classes true k j e l h = by (isLossClass j) (eqb-true (j % 2) 1) (eqb-false 
     by : (loss : Bool) → (loss ≡ true → j % 2 ≡ 1) → (loss ≡ false → j % 2 ≡ 1 → ⊥) → cond (eqb k j) e (pos 0) +ℤ cond (eqb (k + 1) j) l (pos 0) ≡ cond loss (cond (eqb k (j - 1)) l (pos 0)) (cond (eqb k j) e (pos 0))
     by true y n =
         let odd : j % 2 ≡ 1 = y refl in
-        rw (ne-eqb k j (λ q. omega arith), test-same (k + 1) j k (j - 1) (λ q. omega arith) (λ q. omega arith)) (+ℤ-idl _)
+        rw (ne-eqb k j (λ q. omega arith), class-after k j odd) (+ℤ-idl _)
     by false y n =
         rw (ne-eqb (k + 1) j (λ q. n refl (omega arith))) (+ℤ-idr _)
 
@@ -114,23 +119,6 @@ pub counts-more : (meters : List Row) (r : Row) → countsOf (meters ++ (r ∷ [
 unfolding countsOf
 counts-more [] r = counts-eq _ _ (omega arith) (omega arith) (omega arith) (omega arith)
 counts-more (m ∷ meters) r = rw (counts-more meters r) (counts-eq _ _ (omega arith) (omega arith) (omega arith) (omega arith))
-
--- the four counts together
-abbrev pub totalOf : Counts → ℕ
-totalOf x = x .actual + x .estimated + x .defaulted + x .idle
-
-one-counted : (s : Source) (x : Counts) → totalOf (addCounts (countFor s) x) ≡ suc (totalOf x)
-unfolding countFor
-one-counted actualReading x = omega arith
-one-counted estimatedReading x = omega arith
-one-counted shapeDefault x = omega arith
-one-counted noEnergy x = omega arith
-
--- each meter counts once
-pub counts-total : (meters : List Row) → totalOf (countsOf meters) ≡ length meters
-unfolding countsOf
-counts-total [] = refl
-counts-total (r ∷ meters) = one-counted (sourceOf r) (countsOf meters) ∙ ap suc (counts-total meters)
 
 pub number-bound : (s : Source) → sourceNumber s < 4
 number-bound actualReading = omega arith

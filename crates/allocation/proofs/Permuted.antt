@@ -1,6 +1,9 @@
 -- Lists that hold the same entries in another order.
-use Prim.Native.Nat.{ℕ}
+use Prim.Native.Nat.{suc}
+use mathlib.Core.Path.{_≡_, refl, _∙_, ap}
 use mathlib.Core.List.{List, [], _∷_, _++_, map}
+use lib.ListN.{length}
+use Rattle.allocation.proofs.Each.{Each, entry}
 
 -- the second list is the first in another order
 pub data Permuted (A : Type 0) : List A → List A → Type 0 where
@@ -30,3 +33,16 @@ module _ {A : Type 0} where
   mapped f (keep p) = keep (mapped f p)
   mapped f exchange = exchange
   mapped f (chain p q) = chain (mapped f p) (mapped f q)
+
+  -- what is the same of both
+  pub length-permuted : {xs ys : List A} → Permuted A xs ys → length xs ≡ length ys
+  length-permuted none = refl
+  length-permuted (keep p) = ap suc (length-permuted p)
+  length-permuted exchange = refl
+  length-permuted (chain p q) = length-permuted p ∙ length-permuted q
+
+  pub each-permuted : {P : A → Type 0} {xs ys : List A} → Permuted A xs ys → Each P xs → Each P ys
+  each-permuted none e = e
+  each-permuted (keep p) (entry h e) = entry h (each-permuted p e)
+  each-permuted exchange (entry h (entry k e)) = entry k (entry h e)
+  each-permuted (chain p q) e = each-permuted q (each-permuted p e)

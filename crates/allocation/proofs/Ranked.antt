@@ -6,9 +6,9 @@ use mathlib.Core.Logic.{⊎-elim}
 use mathlib.Core.List.{List, [], _∷_}
 use native.Mathlib.Omega.{arith}
 use lib.Dec.{ltb, eqb}
-use lib.ListN.{length}
+use lib.ListN.{length, getD}
 use borrow.Author.Tests.{ltb-true, ltb-false, eqb-true, lt-ltb, le-ltb, eq-eqb}
-use Rattle.words.proofs.Ranges.{either}
+use Rattle.words.proofs.Tests.{either, same-test}
 use Rattle.allocation.specs.Volumes.{comesBefore, countBefore}
 use Rattle.allocation.proofs.CountWhere.{At, here, later, from-first, bit, bit-true, bit-false, bit-one, bit-le, countWhere, where-same}
 
@@ -81,30 +81,24 @@ count-below {i} {f} {j} {g} b (here {fs = fs}) =
 count-below {i} {f} {j} {g} b (later {j = m} {g = h} a) =
     omega (arith, bit-le (comesBefore j g m h) (comesBefore i f m h) (λ t. test-of-order (order-chain b (order-of-test t))), count-below b a)
 
--- so that fewer come before a unit than there are
+-- at most all come before a unit
 count-most : (i f j : ℕ) (fs : List ℕ) → countBefore i f j fs ≤ length fs
 unfolding countBefore
 count-most i f j [] = omega arith
 count-most i f j (g ∷ fs) = omega (arith, bit-one (comesBefore i f j g), count-most i f (suc j) fs)
 
-pub count-short : {i f j : ℕ} {fs : List ℕ} → At i f j fs → countBefore i f j fs < length fs
-unfolding countBefore
-count-short {i} {f} (here {fs = fs}) = omega (arith, itself i f, count-most i f (suc i) fs)
-count-short {i} {f} (later {j = j} {g = g} a) = omega (arith, bit-one (comesBefore i f j g), count-short a)
+-- how many come before unit i
+abbrev pub rankOf : List ℕ → ℕ → ℕ
+rankOf fs i = countBefore i (getD fs i 0) 0 fs
 
--- fewer than k come before it
+-- fewer than k come before a unit
 abbrev pub rankBelow : ℕ → ℕ → List ℕ → ℕ → ℕ → Bool
 rankBelow k j fs i f = ltb (countBefore i f j fs) k
 
 -- two tests that tell the same
-same-test : (a b c d : ℕ) → (a < b → c < d) → (c < d → a < b) → ltb a b ≡ ltb c d
-same-test a b c d to fro = by (ltb a b) (ltb c d) refl refl
-  where
-    by : (s t : Bool) → ltb a b ≡ s → ltb c d ≡ t → s ≡ t
-    by true true p q = refl
-    by true false p q = absurd (omega (arith, to (ltb-true a b p), ltb-false))
-    by false true p q = absurd (omega (arith, fro (ltb-true c d q), ltb-false))
-    by false false p q = refl
+same-order : (a b c d : ℕ) → (a < b → c < d) → (c < d → a < b) → ltb a b ≡ ltb c d
+same-order a b c d to fro =
+    same-test (ltb a b) (ltb c d) (λ t. lt-ltb c d (to (ltb-true a b t))) (λ t. lt-ltb a b (fro (ltb-true c d t)))
 
 -- a unit put at the front: its rank, and the ranks of the others, one more if it comes before them
 module _ (j g : ℕ) (fs : List ℕ) where
@@ -130,15 +124,15 @@ module _ (j g : ℕ) (fs : List ℕ) where
   same-below k h i f a = by (moved a)
     where
       by : Moved i f → rankBelow k j (g ∷ fs) i f ≡ rankBelow k (suc j) fs i f
-      by (after-it e p) = same-test _ k _ k (λ q. omega arith) (λ q. omega arith)
-      by (before-it e p) = same-test _ k _ k (λ q. omega arith) (λ q. omega arith)
+      by (after-it e p) = same-order _ k _ k (λ q. omega arith) (λ q. omega arith)
+      by (before-it e p) = same-order _ k _ k (λ q. omega arith) (λ q. omega arith)
 
   one-less : (k : ℕ) → countBefore j g (suc j) fs ≤ k → (i f : ℕ) → At i f (suc j) fs → rankBelow (suc k) j (g ∷ fs) i f ≡ rankBelow k (suc j) fs i f
   one-less k h i f a = by (moved a)
     where
       by : Moved i f → rankBelow (suc k) j (g ∷ fs) i f ≡ rankBelow k (suc j) fs i f
-      by (after-it e p) = same-test _ (suc k) _ k (λ q. omega arith) (λ q. omega arith)
-      by (before-it e p) = same-test _ (suc k) _ k (λ q. omega arith) (λ q. omega arith)
+      by (after-it e p) = same-order _ (suc k) _ k (λ q. omega arith) (λ q. omega arith)
+      by (before-it e p) = same-order _ (suc k) _ k (λ q. omega arith) (λ q. omega arith)
 
   -- so that the count of ranks below k is k with the new unit, if it is for each number without
   step : ((n : ℕ) → n ≤ length fs → countWhere (rankBelow n (suc j) fs) (suc j) fs ≡ n)

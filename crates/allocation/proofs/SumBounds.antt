@@ -1,15 +1,14 @@
 -- How large n, a, U and W can be, from all cells together.
-use Prim.Native.Nat.{ℕ, suc, _+_, _*_, _/_, _%_, _≤_}
-use mathlib.Core.Path.{_≡_, refl, ap}
-use mathlib.Core.Bool.{Bool, true, false, cond, and-eq-true-iff}
+use Prim.Native.Nat.{ℕ, suc, _+_, _*_, _≤_}
+use mathlib.Core.Path.{_≡_, ap}
+use mathlib.Core.Bool.{true, and-eq-true-iff}
 use mathlib.Core.List.{List, [], _∷_, map, map-map}
 use native.Mathlib.Omega.{arith}
 use native.Mathlib.Nat.{mul-le-mul-left}
-use lib.Dec.{eqb}
 use lib.ListN.{length}
-use lib.IntN.{ℤ, pos, natAbs, negℤ, _*ℤ_}
+use lib.IntN.{ℤ, pos, natAbs, _*ℤ_}
 use borrow.Author.Tests.{leb-true}
-use Rattle.integers.proofs.Size.{size-plus, size-neg, size-times}
+use Rattle.integers.proofs.Size.{size-plus, size-times}
 use Rattle.book.specs.Limits.{classes}
 use Rattle.book.specs.declared.Settings.{Settings}
 use Rattle.book.specs.Settings.{isWeight, allOf}
@@ -17,6 +16,7 @@ use Rattle.book.specs.Rows.{Row}
 use Rattle.allocation.specs.Cells.{cell, countFrom, cellsOf}
 use Rattle.allocation.specs.Correction.{units, byDirection, netOf, weightedOf, unitSums, allUnitSums, netIn, weightedIn}
 use Rattle.allocation.proofs.Each.{Each}
+use Rattle.allocation.proofs.RunningSums.{direction-size}
 use Rattle.allocation.proofs.RowBounds.{RowBounds}
 use Rattle.allocation.proofs.Totals.{total, total-plus, total-mono, total-one, total-const, total-times, sizes, sizes-total}
 use Rattle.allocation.proofs.CellBounds.{thousandths, cell-thousandths, thousandths-total}
@@ -25,11 +25,7 @@ use Rattle.allocation.proofs.CellBounds.{thousandths, cell-thousandths,
 pub net-most : (class : ℕ) (cells : List ℤ) → natAbs (netOf class cells) ≤ sizes cells
 unfolding netOf sizes
 net-most class [] = omega arith
-net-most class (c ∷ cells) = omega (arith, size-plus (byDirection class c) (netOf (suc class) cells), by (eqb (class / 4 % 2) 0), net-most (suc class) cells)
-  where
-    by : (t : Bool) → natAbs (cond t c (negℤ c)) ≡ natAbs c
-    by true = refl
-    by false = size-neg c
+net-most class (c ∷ cells) = omega (arith, size-plus (byDirection class c) (netOf (suc class) cells), direction-size class c, net-most (suc class) cells)
 
 pub weighted-most : (cells : List ℤ) (weights : List ℕ) → allOf isWeight weights ≡ true → natAbs (weightedOf cells weights) ≤ 1000 * sizes cells
 unfolding weightedOf sizes allOf

@@ -5,7 +5,6 @@ use mathlib.Core.Bool.{Bool, true, false, cond}
 use mathlib.Core.List.{List, [], _∷_, map}
 use native.Mathlib.Omega.{arith}
 use lib.Dec.{eqb}
-use lib.ListN.{take}
 use lib.IntN.{ℤ, natAbs}
 use borrow.Author.Tests.{eqb-true, ne-eqb}
 use Rattle.integers.specs.Sum.{sum}
@@ -68,12 +67,6 @@ pub size-sum : (xs : List ℤ) → natAbs (sum xs) ≤ sizes xs
 unfolding sum sizes
 size-sum [] = omega arith
 size-sum (x ∷ xs) = omega (arith, size-plus x (sum xs), size-sum xs)
-
-pub sizes-take : (n : ℕ) (xs : List ℤ) → sizes (take n xs) ≤ sizes xs
-unfolding sizes
-sizes-take zero xs = omega arith
-sizes-take (suc n) [] = omega arith
-sizes-take (suc n) (x ∷ xs) = omega (arith, sizes-take n xs)
 
 pub sizes-total : (f : ℕ → ℤ) (j n : ℕ) → sizes (map f (countFrom j n)) ≡ total (λ i. natAbs (f i)) j n
 unfolding sizes total countFrom

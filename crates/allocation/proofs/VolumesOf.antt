@@ -2,10 +2,10 @@
 use Prim.Native.Nat.{ℕ, suc, _<_}
 use mathlib.Core.Path.{_≡_, refl, sym, ap, _∙_}
 use mathlib.Core.Bool.{Bool, true, false}
-use mathlib.Core.List.{List, [], _∷_, map, map-map}
+use mathlib.Core.List.{List, [], _∷_, map}
 use native.Mathlib.Omega.{arith}
 use lib.Dec.{ltb}
-use lib.ListN.{length, getD, length-map, List·getD-map}
+use lib.ListN.{length, getD, length-map}
 use lib.IntN.{ℤ, pos, negsuc, natAbs, _+ℤ_, _-ℤ_, _*ℤ_}
 use lib.Signed.{_<ℤ_}
 use borrow.Author.Tests.{ltb-true, ltb-false}
@@ -14,24 +14,19 @@ use Rattle.integers.specs.Quotient.{floorOf, fractionOf}
 use Rattle.integers.proofs.Linear.{linear, plus, minus}
 use Rattle.integers.proofs.Ring.{neg-minus}
 use Rattle.integers.proofs.Size.{size-positive, size-neg}
-use Rattle.integers.proofs.Sum.{entry-map}
 use Rattle.integers.proofs.Floor.{fraction-below, above-floor, below-next}
 use Rattle.book.specs.declared.Settings.{Settings}
 use Rattle.book.specs.Rows.{Row}
 use Rattle.allocation.specs.declared.UnitSums.{UnitSums}
 use Rattle.allocation.specs.Correction.{units, allUnitSums, unallocatedOf, weightedTotal, shareNumerator, shareFloor, shareFraction}
 use Rattle.allocation.specs.Volumes.{volumesFrom, volumesOf}
+use Rattle.allocation.proofs.Entries.{entry-map}
 use Rattle.allocation.proofs.Counting.{sums-length}
 use Rattle.allocation.proofs.CountWhere.{At, here, later}
-use Rattle.allocation.proofs.Ranked.{ranks-exactly}
-use Rattle.allocation.proofs.Rounds.{rankOf}
+use Rattle.allocation.proofs.Ranked.{rankOf, ranks-exactly}
 use Rattle.allocation.proofs.Served.{served-above-zero}
-use Rattle.allocation.proofs.Apportioned.{numeratorsOf, floorsOf, fractionsOf, lackOf, lacking-is, lacking-fewer, fractions-total}
+use Rattle.allocation.proofs.Apportioned.{noSums, numeratorsOf, floorsOf, fractionsOf, lackOf, lacking-is, lacking-fewer, fractions-total}
 use Rattle.allocation.proofs.RoundedVolumes.{rounded-length, rounded-sum, volume-served, volume-unserved}
-
--- read where there is no unit
-noSums : UnitSums
-noSums = record { net = pos 0; weighted = pos 0 }
 
 -- a W above 0 has a unit in it
 some-unit : (sums : List UnitSums) → pos 0 <ℤ weightedTotal sums → 0 < length sums
@@ -111,16 +106,13 @@ module _ (takeWh : ℤ) (sums : List UnitSums) where
         share-is : getD (numeratorsOf takeWh sums) i (pos 0) ≡ x
         share-is = entry-map (shareNumerator u w) sums i noSums (pos 0) h
 
-        fraction-is : pos (getD fs i 0) ≡ pos (fractionOf x (natAbs w))
-        fraction-is =
-            sym (List·getD-map pos fs i 0)
-            ∙ ap (λ l. getD l i (pos 0)) (map-map pos (shareFraction u w) sums)
-            ∙ entry-map (λ s. pos (shareFraction u w s)) sums i noSums (pos 0) h
+        fraction-is : getD fs i 0 ≡ fractionOf x (natAbs w)
+        fraction-is = entry-map (shareFraction u w) sums i noSums 0 h
 
         above-zero : rankOf fs i < n → 0 < fractionOf x (natAbs w)
         above-zero r =
             omega (
-              linear,
+              arith,
               fraction-is,
               served-above-zero (natAbs w) n fs (fractions-below u w 0 sums (size-positive w p)) (size-positive w p) (fractions-total takeWh sums p) i (getD fs i 0) r,
             )

@@ -18,7 +18,7 @@ use Rattle.allocation.specs.Correction.{units, netOf, weightedOf, netIn,
 use Rattle.allocation.specs.declared.Allocated.{Allocated}
 use Rattle.allocation.specs.declared.AllocationAnswer.{AllocationAnswer}
 use Rattle.allocation.specs.Volumes.{volumesFrom}
-use Rattle.allocation.specs.Allocate.{Allocation, withVolumes}
+use Rattle.allocation.specs.Allocate.{Allocation}
 
 -- the number of a source, in the order of the four counts
 abbrev pub sourceNumber : Source → ℕ

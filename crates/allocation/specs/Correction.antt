@@ -1,6 +1,6 @@
 -- "Correction": n and a of a unit, U, W, and the exact share.
 use Prim.Native.Nat.{ℕ, suc, _/_, _%_}
-use mathlib.Core.Bool.{Bool, cond}
+use mathlib.Core.Bool.{cond}
 use mathlib.Core.List.{List, [], _∷_, map}
 use lib.Dec.{eqb}
 use lib.IntN.{ℤ, pos, negℤ, natAbs, _+ℤ_, _-ℤ_, _*ℤ_}

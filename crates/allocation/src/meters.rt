@@ -1,5 +1,6 @@
 // The energy of a meter, and the class it goes to.
 use crate::Use;
+use book::formed::wide;
 ghost use mathlib.Core.Path.{_≡_};
 ghost use lib.ListN.{length};
 ghost use Rattle.book.specs.Limits.{categories};
@@ -57,13 +58,6 @@ pub fn source(registration: u64, reading: u64) -> u64
         }
     }
     IDLE
-}
-
-// A number of 32 bits at the full width.
-fn wide(x: u32) -> u64
-    ensures { λ r. ⌜ r ≡ x ⌝ }
-{
-    x as u64
 }
 
 // What a meter comes to under these shapes.

@@ -7,7 +7,7 @@ use mathlib.Core.Logic.{⊎-elim}
 use native.Mathlib.Omega.{arith}
 use borrow.Author.Tests.{ltb-true, leb-true, eqb-true}
 use lib.Dec.{leb, eqb}
-use Rattle.words.proofs.Ranges.{either}
+use Rattle.words.proofs.Tests.{either}
 use Rattle.book.specs.Limits.{classes, categories, weightMost, shapeMost, shapeMissing}
 use Rattle.book.specs.declared.Settings.{Settings}
 use Rattle.book.specs.Book.{Book, wellFormed}

@@ -9,7 +9,7 @@ use Rattle.words.specs.declared.Reading.{Reading}
 use Rattle.words.specs.Reading.{qualityAllowed, readingWord, issueOf}
 use Rattle.book.specs.declared.Settings.{Settings}
 use Rattle.book.specs.Settings.{withMeters}
-use Rattle.book.specs.Rows.{Row, rowsOf, isKnown, issueHeld, withReading}
+use Rattle.book.specs.Rows.{rowsOf, isKnown, issueHeld, withReading}
 use Rattle.book.specs.Book.{Book, usedRows, wellFormed}
 use Rattle.book.specs.Causes.{accepted, bookIllFormed, argumentOutOfRange, qualityRefused, meterUnknown, issueNotAbove}
 use Rattle.book.specs.Calls.{outcome, readingCallInRange, readingCause, withRows, readingCall}

@@ -10,7 +10,7 @@ use Rattle.words.specs.declared.Registration.{Registration}
 use Rattle.words.specs.Registration.{registrationWord}
 use Rattle.book.specs.declared.Settings.{Settings}
 use Rattle.book.specs.Settings.{withMeters}
-use Rattle.book.specs.Rows.{Row, capacity, rowsOf, rowsFormed, isKnown, newRow, withRegistration, written}
+use Rattle.book.specs.Rows.{capacity, rowsOf, isKnown, newRow, withRegistration, written}
 use Rattle.book.specs.Book.{Book, usedRows, wellFormed}
 use Rattle.book.specs.Causes.{accepted, bookIllFormed, argumentOutOfRange, capacityReached}
 use Rattle.book.specs.Calls.{Outcome, outcome, registerInRange, hasNoRoom, registerCause, withRows, registerCall}

@@ -1,12 +1,12 @@
 -- The rows of a slice tested one after the other: what is left decides.
-use Prim.Native.Nat.{ℕ, suc, _+_, _*_, _-_, _≤_, _<_}
-use mathlib.Core.Path.{_≡_, refl, sym, _∙_, ap}
+use Prim.Native.Nat.{ℕ, _+_, _*_, _-_, _≤_, _<_}
+use mathlib.Core.Path.{_≡_, sym, _∙_, ap}
 use mathlib.Core.Bool.{Bool, true, false, _&&_}
 use mathlib.Core.List.{List}
 use native.Mathlib.Omega.{arith}
 use lib.Dec.{ltb}
 use lib.ListN.{drop}
-use Rattle.book.specs.Rows.{Row, isRow, rowsOf, rowsFormed}
+use Rattle.book.specs.Rows.{isRow, rowsOf, rowsFormed}
 use Rattle.book.proofs.RowsOf.{rowAt, rows-next}
 
 module _ (words : List ℕ) (n : ℕ) where

@@ -1,14 +1,13 @@
--- The three parts of a well-formed book, put together and taken apart.
+-- The parts of a well-formed book and of well-formed settings, taken apart and put together.
 use Prim.Native.Nat.{ℕ, _*_, _≤_, _<_}
-use mathlib.Core.Path.{_≡_, refl, sym, _∙_, ap}
-use mathlib.Core.Bool.{Bool, true, false, _&&_, and-false, and-eq-true-iff}
+use mathlib.Core.Path.{_≡_}
+use mathlib.Core.Bool.{true, false, and-false, and-eq-true-iff}
 use mathlib.Core.List.{List}
 use native.Mathlib.Omega.{arith}
 use borrow.Author.Tests.{le-leb, lt-leb, leb-true}
-use lib.Dec.{leb}
 use lib.ListN.{length}
 use Rattle.book.specs.declared.Settings.{Settings}
-use Rattle.book.specs.Settings.{settingsFormed}
+use Rattle.book.specs.Settings.{isWeight, isShape, isTolerance, takeFormed, allOf, settingsFormed}
 use Rattle.book.specs.Rows.{capacity, rowsOf, rowsFormed}
 use Rattle.book.specs.Book.{Book, usedRows, wellFormed}
 use Rattle.book.specs.Contracts.{lent, RowsReady}
@@ -18,6 +17,38 @@ pub room : (words : List ℕ) (n : ℕ) → n ≤ capacity words → 3 * n ≤ l
 unfolding capacity
 room words n h = omega arith
 
+pub record FormedBook (b : Book) : Type 0 where
+  pub within : b .settings .meters ≤ capacity (b .rows)
+  pub settings-formed : settingsFormed (b .settings) ≡ true
+  pub rows-formed : rowsFormed 0 (usedRows b) ≡ true
+
+pub formed-book : (b : Book) → wellFormed b ≡ true → FormedBook b
+unfolding wellFormed
+formed-book b h =
+    let k = simp and-eq-true-iff at h in
+    record { within = leb-true (b .settings .meters) (capacity (b .rows)) (k .0 .0); settings-formed = k .0 .1; rows-formed = k .1 }
+
+pub book-formed : (b : Book) → FormedBook b → wellFormed b ≡ true
+unfolding wellFormed
+book-formed b f = rw (le-leb (b .settings .meters) (capacity (b .rows)) (f .within), f .settings-formed, f .rows-formed)
+
+pub record FormedSettings (s : Settings) : Type 0 where
+  pub weights-formed : allOf isWeight (s .weights) ≡ true
+  pub shapes-formed : allOf isShape (s .shapes) ≡ true
+  pub tolerance-formed : isTolerance (s .tolerance) ≡ true
+  pub take-formed : takeFormed (s .«take_set») (s .«take_wh») ≡ true
+
+pub formed-settings : (s : Settings) → settingsFormed s ≡ true → FormedSettings s
+unfolding settingsFormed
+formed-settings s h =
+    let k = simp and-eq-true-iff at h in
+    record { weights-formed = k .0 .0 .0; shapes-formed = k .0 .0 .1; tolerance-formed = k .0 .1; take-formed = k .1 }
+
+pub settings-formed : (s : Settings) → FormedSettings s → settingsFormed s ≡ true
+unfolding settingsFormed
+settings-formed s f = rw (f .weights-formed, f .shapes-formed, f .tolerance-formed, f .take-formed)
+
+-- as the code tests a book
 module _ (s : Settings) (words : List ℕ) where
   pub too-many-meters : capacity words < s .meters → false ≡ wellFormed (lent s words)
   unfolding wellFormed
@@ -33,13 +64,7 @@ module _ (s : Settings) (words : List ℕ) where
 
   -- the rows of a well-formed book may be searched and written
   pub rows-ready : wellFormed (lent s words) ≡ true → RowsReady (s .meters) words
-  unfolding wellFormed usedRows
+  unfolding usedRows
   rows-ready h =
-      let k = simp and-eq-true-iff at h in
-      record { within-capacity = leb-true (s .meters) (capacity words) (k .0 .0); formed = k .1 }
-
-  pub settings-ready : wellFormed (lent s words) ≡ true → settingsFormed s ≡ true
-  unfolding wellFormed
-  settings-ready h =
-      let k = simp and-eq-true-iff at h in
-      k .0 .1
+      let f = formed-book (lent s words) h in
+      record { within-capacity = f .within; formed = f .rows-formed }

@@ -8,7 +8,7 @@ use borrow.Author.Tests.{lt-ltb, le-ltb, eq-eqb, ne-eqb}
 use lib.ListN.{length, getD, set, take, drop, length-append, length-take, length-drop, length-set}
 use Rattle.words.specs.Mpan.{isMpan}
 use Rattle.words.specs.Registration.{isRegistration}
-use Rattle.words.specs.Reading.{isReading}
+use Rattle.words.proofs.ReadingWord.{no-reading-well-formed}
 use Rattle.book.specs.Rows.{Row, firstRow, rowsOf, rowsFormed, isKnown, newRow, withRegistration, written}
 use Rattle.book.specs.Contracts.{placeOf}
 use Rattle.book.proofs.RowsOf.{row-of}
@@ -62,8 +62,7 @@ pub length-replaced : (before m w : ℕ) (rows : List Row) → rowsFormed before
 length-replaced before m w rows f h = ap length (registration-replaced before m w rows (newRow m w) f h) ∙ simp length-set
 
 new-row-formed : (m w : ℕ) → isMpan m ≡ true → isRegistration w ≡ true → Words (newRow m w)
-unfolding isReading
-new-row-formed m w hm hw = record { mpan-formed = hm; registration-formed = hw; reading-formed = refl }
+new-row-formed m w hm hw = record { mpan-formed = hm; registration-formed = hw; reading-formed = no-reading-well-formed }
 
 -- the rows are well formed afterwards
 pub registration-formed : (before m w : ℕ) (rows : List Row) → rowsFormed before rows ≡ true → before < m → isMpan m ≡ true → isRegistration w ≡ true → rowsFormed before (withRegistration m w rows) ≡ true

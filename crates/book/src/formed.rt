@@ -10,7 +10,8 @@ ghost use Rattle.book.specs.Rows.{isRow, rowsOf, rowsFormed};
 ghost use Rattle.book.specs.Book.{wellFormed};
 ghost use Rattle.book.specs.Contracts.{lent, row, within};
 
-fn wide(x: u32) -> u64
+// A number of 32 bits at the full width.
+pub fn wide(x: u32) -> u64
     ensures { λ r. ⌜ r ≡ x ⌝ }
 {
     x as u64

@@ -60,12 +60,7 @@ unfolding sum
 sum-times k f [] = sym (*ℤ-zero k)
 sum-times k f (x ∷ xs) = ap (λ z. k *ℤ f x +ℤ z) (sum-times k f xs) ∙ sym (times-plus k (f x) (sum (map f xs)))
 
--- what holds of each entry, of the sum; `entry-map` reads the entries of a mapped list
-pub entry-map : {A : Type 0} (f : A → ℤ) (xs : List A) (i : ℕ) (d : A) (e : ℤ) → i < length xs → getD (map f xs) i e ≡ f (getD xs i d)
-entry-map f [] i d e h = absurd (omega arith)
-entry-map f (x ∷ xs) zero d e h = refl
-entry-map f (x ∷ xs) (suc i) d e h = entry-map f xs i d e (le-of-suc-le-suc h)
-
+-- what holds of each entry, of the sum
 pub sum-bound : (xs : List ℤ) (B : ℕ) → ((i : ℕ) → i < length xs → natAbs (getD xs i (pos 0)) ≤ B) → natAbs (sum xs) ≤ length xs * B
 unfolding sum
 sum-bound [] B h = omega arith

@@ -15,15 +15,18 @@ use Rattle.words.specs.Registration.{registrationInRange, registrationWord}
 use Rattle.words.specs.Reading.{readingInRange, qualityAllowed, readingWord}
 use Rattle.words.proofs.RegistrationWord.{registration-word-well-formed}
 use Rattle.words.proofs.ReadingWord.{reading-word-well-formed}
+use Rattle.words.proofs.Tests.{by-test}
 use Rattle.book.specs.Rows.{capacity, rowsFormed, isKnown, issueHeld, withRegistration, withReading}
 use Rattle.book.specs.Book.{Book, usedRows, wellFormed}
 use Rattle.book.specs.Causes.{bookIllFormed}
-use Rattle.book.specs.Calls.{Setting, Call, register, reading, setting, outcome, settingInRange, registerInRange, readingCallInRange, hasNoRoom, registerCause, readingCause, settingCause, settingCall, registerCall, readingCall, callOutcome, bookAfter, numbersGiven}
+use Rattle.book.specs.Calls.{Setting, Call, register, reading, setting, outcome, settingInRange, registerInRange, readingCallInRange, registerCause, readingCause, settingCause, settingCall, registerCall, readingCall, callOutcome, bookAfter, numbersGiven}
 use Rattle.book.proofs.RowsOf.{length-rows}
+use Rattle.book.proofs.WellFormed.{formed-book}
 use Rattle.book.proofs.WithRegistration.{length-inserted, length-replaced, registration-formed}
 use Rattle.book.proofs.WithReading.{length-reading, reading-formed}
-use Rattle.settlement.proofs.Snoc.{by-test}
-use Rattle.settlement.proofs.Formed.{formed-book, set-formed, rows-stored-formed}
+use Rattle.book.proofs.RegisterCall.{register-out-of-range, register-no-room, register-known, register-new}
+use Rattle.book.proofs.ReadingCall.{reading-out-of-range, reading-of-refused-quality, reading-of-unknown-meter, reading-not-above, reading-above}
+use Rattle.settlement.proofs.Formed.{set-formed, rows-stored-formed}
 
 above-nothing : (m : ℕ) → isMpan m ≡ true → 0 < m
 unfolding isMpan
@@ -43,50 +46,49 @@ module _ (b : Book) (wf : wellFormed b ≡ true) where
       (λ h. rw (wf, h) (set-formed b wf x h))
       (λ h. rw (wf, h) wf)
 
+  -- the rows with an in-range registration stored: well formed, and within capacity if the meter is known or there is room
   module _ (m : ℕ) (r : Registration) where
-    -- the rows with an in-range registration stored
     pub registered-rows-formed : registerInRange m r ≡ true → rowsFormed 0 (withRegistration m (registrationWord r) (usedRows b)) ≡ true
     registered-rows-formed range =
         let parts = and-eq-true-iff (isMpan m) (registrationInRange r) .0 range in
         registration-formed 0 m (registrationWord r) (usedRows b) (formed-book b wf .rows-formed)
         (above-nothing m (parts .0)) (parts .0) (registration-word-well-formed r (parts .1))
 
-    new-row-fits : isKnown m (usedRows b) ≡ false → leb (capacity (b .rows)) (b .settings .meters) ≡ false → length (withRegistration m (registrationWord r) (usedRows b)) ≤ capacity (b .rows)
+    pub known-row-fits : isKnown m (usedRows b) ≡ true → length (withRegistration m (registrationWord r) (usedRows b)) ≤ capacity (b .rows)
+    known-row-fits known = rw (length-replaced 0 m (registrationWord r) (usedRows b) (formed-book b wf .rows-formed) known) rows-within
+
+    pub new-row-fits : isKnown m (usedRows b) ≡ false → b .settings .meters < capacity (b .rows) → length (withRegistration m (registrationWord r) (usedRows b)) ≤ capacity (b .rows)
     unfolding usedRows
-    new-row-fits unknown room =
-        let more = length-inserted m (registrationWord r) (usedRows b) unknown in
-        let count = length-rows (b .settings .meters) (b .rows) in
-        let free = leb-false (capacity (b .rows)) (b .settings .meters) room in
-        omega arith
+    new-row-fits unknown free =
+        omega (arith, length-inserted m (registrationWord r) (usedRows b) unknown, length-rows (b .settings .meters) (b .rows))
 
     register-keeps : wellFormed (registerCall b m r .book) ≡ true
-    unfolding registerCall registerCause outcome hasNoRoom
     register-keeps =
-        let rows = withRegistration m (registrationWord r) (usedRows b) in
+        let stored = rows-stored-formed b wf (withRegistration m (registrationWord r) (usedRows b)) in
         by-test (registerInRange m r)
         (λ range.
         by-test (isKnown m (usedRows b))
-        (λ known.
-        let long : length rows ≡ length (usedRows b) = length-replaced 0 m (registrationWord r) (usedRows b) (formed-book b wf .rows-formed) known in
-        rw (wf, range, known) (rows-stored-formed b wf rows (registered-rows-formed range) (rw long rows-within)))
+        (λ known. rw (register-known b m r wf range known) (stored (registered-rows-formed range) (known-row-fits known)))
         (λ unknown.
         by-test (leb (capacity (b .rows)) (b .settings .meters))
-        (λ full. rw (wf, range, unknown, full) wf)
-        (λ room. rw (wf, range, unknown, room) (rows-stored-formed b wf rows (registered-rows-formed range) (new-row-fits unknown room)))))
-        (λ range. rw (wf, range) wf)
+        (λ full. rw (register-no-room b m r wf range unknown (leb-true (capacity (b .rows)) (b .settings .meters) full)) wf)
+        (λ room.
+        let free = leb-false (capacity (b .rows)) (b .settings .meters) room in
+        rw (register-new b m r wf range unknown free) (stored (registered-rows-formed range) (new-row-fits unknown free)))))
+        (λ range. rw (register-out-of-range b m r wf range) wf)
 
+  -- the rows with an in-range reading of an allowed quality stored
   module _ (m : ℕ) (r : Reading) where
-    -- the rows with an in-range reading of an allowed quality stored
     pub read-rows-formed : readingCallInRange m r ≡ true → qualityAllowed r ≡ true → rowsFormed 0 (withReading m (readingWord r) (usedRows b)) ≡ true
     read-rows-formed range quality =
         let in-range = and-eq-true-iff (isMpan m) (readingInRange r) .0 range .1 in
         reading-formed 0 m (readingWord r) (usedRows b) (formed-book b wf .rows-formed) (reading-word-well-formed r in-range quality)
 
+    pub read-rows-fit : length (withReading m (readingWord r) (usedRows b)) ≤ capacity (b .rows)
+    read-rows-fit = rw (length-reading m (readingWord r) (usedRows b)) rows-within
+
     reading-keeps : wellFormed (readingCall b m r .book) ≡ true
-    unfolding readingCall readingCause outcome
     reading-keeps =
-        let rows = withReading m (readingWord r) (usedRows b) in
-        let long : length rows ≡ length (usedRows b) = length-reading m (readingWord r) (usedRows b) in
         by-test (readingCallInRange m r)
         (λ range.
         by-test (qualityAllowed r)
@@ -94,11 +96,13 @@ module _ (b : Book) (wf : wellFormed b ≡ true) where
         by-test (isKnown m (usedRows b))
         (λ known.
         by-test (leb (r .issue) (issueHeld m (usedRows b)))
-        (λ h. rw (wf, range, quality, known, h) wf)
-        (λ h. rw (wf, range, quality, known, h) (rows-stored-formed b wf rows (read-rows-formed range quality) (rw long rows-within))))
-        (λ unknown. rw (wf, range, quality, unknown) wf))
-        (λ refused. rw (wf, range, refused) wf))
-        (λ range. rw (wf, range) wf)
+        (λ h. rw (reading-not-above b m r wf range quality known (leb-true (r .issue) (issueHeld m (usedRows b)) h)) wf)
+        (λ h.
+        rw (reading-above b m r wf range quality known (leb-false (r .issue) (issueHeld m (usedRows b)) h))
+        (rows-stored-formed b wf (withReading m (readingWord r) (usedRows b)) (read-rows-formed range quality) read-rows-fit)))
+        (λ unknown. rw (reading-of-unknown-meter b m r wf range quality unknown) wf))
+        (λ refused. rw (reading-of-refused-quality b m r wf range refused) wf))
+        (λ range. rw (reading-out-of-range b m r wf range) wf)
 
   pub call-formed : (c : Call) → wellFormed (callOutcome b c .book) ≡ true
   unfolding callOutcome

@@ -1,6 +1,4 @@
 -- Document 01's cases 1 to 10 hold of the definitions: every figure of the table, worked by making the calls and worked from what the list of calls means, by computation. Assumes nothing.
-use mathlib.Core.Path.{_≡_, refl}
-use mathlib.Core.Bool.{true}
 use lib.Dec.{T}
 use Rattle.integers.specs.Sum.{sum}
 use Rattle.integers.specs.Quotient.{floorOf, fractionOf}

@@ -5,11 +5,12 @@ use mathlib.Core.Bool.{Bool, true, false, _&&_, _||_, and-true, and-false, or-fa
 use mathlib.Core.List.{List, [], _∷_, _++_, append-nil}
 use lib.Dec.{eqb}
 use Rattle.words.specs.Reading.{qualityAllowed}
+use Rattle.words.proofs.Tests.{by-test}
 use Rattle.book.specs.Calls.{Call, register, reading, setting, registerInRange, readingCallInRange}
+use Rattle.allocation.proofs.Each.{Each, no-entry, entry}
 use Rattle.settlement.specs.Meaning.{only, gather, isAny, mpanRegistered, registrationSet, sinceRegistered, readingFree, countedReadings}
 use Rattle.settlement.specs.Demand.{isIn}
-use Rattle.settlement.proofs.Snoc.{by-test, eqb-either-way, gather-end, any-append, in-append}
-use Rattle.settlement.proofs.Each.{Each, no-entry, entry, each-gathered}
+use Rattle.settlement.proofs.Lists.{eqb-either-way, gather-end, any-append, in-append, each-gathered}
 use Rattle.settlement.proofs.Newest.{InRange}
 
 any-only : {A : Type 0} (t : Bool) (x : A) → isAny (only t x) ≡ t

@@ -1,16 +1,17 @@
 -- Different numbers: each number of a list where it stands first, with one more at the end, and up to a capacity.
 use Prim.Native.Nat.{ℕ, zero, suc, _≤_, _<_}
 use mathlib.Core.Path.{_≡_, refl, sym, _∙_, ap}
-use mathlib.Core.Bool.{Bool, true, false, _||_, or-false, true≢false}
+use mathlib.Core.Bool.{true, false, or-false, true≢false}
 use mathlib.Core.List.{List, [], _∷_, _++_, append-nil}
 use native.Mathlib.Omega.{arith}
 use borrow.Author.Tests.{eqb-true}
 use lib.Dec.{eqb}
 use lib.ListN.{length, take, length-take, length-append}
 use lib.Seq.{take-all, take-append-le}
+use Rattle.words.proofs.Tests.{by-test, neither}
 use Rattle.settlement.specs.Meaning.{without, different}
 use Rattle.settlement.specs.Demand.{isIn}
-use Rattle.settlement.proofs.Snoc.{by-test, eqb-either-way}
+use Rattle.settlement.proofs.Lists.{eqb-either-way}
 
 module _ (x y : ℕ) (ys : List ℕ) where
   without-next : eqb x y ≡ false → without x (y ∷ ys) ≡ y ∷ without x ys
@@ -28,11 +29,6 @@ without-append x (y ∷ ys) zs =
     by-test (eqb x y)
     (λ e. rw (without-here x y (ys ++ zs) e, without-here x y ys e) (without-append x ys zs))
     (λ e. rw (without-next x y (ys ++ zs) e, without-next x y ys e) (ap (λ (l : List ℕ). y ∷ l) (without-append x ys zs)))
-
--- neither test of a disjunction that fails passes
-neither : (a b : Bool) → (a || b) ≡ false → (a ≡ false) × (b ≡ false)
-neither true b h = absurd (true≢false h)
-neither false b h = (refl, h)
 
 -- a number that is not there changes nothing
 pub without-none : (x : ℕ) (ys : List ℕ) → isIn x ys ≡ false → without x ys ≡ ys

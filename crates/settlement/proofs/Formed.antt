@@ -1,68 +1,22 @@
--- A well-formed book taken apart and put together: the number of meters, the settings and the rows. A setting in range, and well-formed rows within capacity, leave it well formed.
-use Prim.Native.Nat.{ℕ, zero, suc, _≤_}
+-- A setting in range, and well-formed rows within capacity, leave a well-formed book well formed.
+use Prim.Native.Nat.{ℕ, _≤_}
 use mathlib.Core.Path.{_≡_, refl}
-use mathlib.Core.Bool.{Bool, true, _&&_, and-eq-true-iff}
-use mathlib.Core.List.{List, [], _∷_}
-use borrow.Author.Tests.{leb-true, le-leb}
-use lib.Dec.{leb, ltb}
-use lib.ListN.{length, set}
+use mathlib.Core.Bool.{true, and-eq-true-iff}
+use mathlib.Core.List.{List}
+use lib.Dec.{ltb}
+use lib.ListN.{length}
 use Rattle.book.specs.declared.Settings.{Settings}
 use Rattle.book.specs.Limits.{classes, categories}
-use Rattle.book.specs.Settings.{isWeight, isShape, isTolerance, takeFormed, allOf, freshSettings, settingsFormed, withMeters}
+use Rattle.book.specs.Settings.{isWeight, isShape, takeFormed, allOf, freshSettings, settingsFormed, withMeters}
 use Rattle.book.specs.Rows.{Row, capacity, rowsFormed, written}
 use Rattle.book.specs.Book.{Book, usedRows, wellFormed}
 use Rattle.book.specs.Calls.{Setting, shape, weight, tolerance, groupTake, settingInRange, withSetting, withRows}
-use Rattle.book.proofs.WellFormed.{room}
+use Rattle.book.proofs.AllOf.{all-set}
+use Rattle.book.proofs.WellFormed.{room, FormedBook, formed-book, book-formed, formed-settings, settings-formed}
 use Rattle.book.proofs.Written.{length-written, rows-of-written}
 
-pub record FormedBook (b : Book) : Type 0 where
-  pub within : b .settings .meters ≤ capacity (b .rows)
-  pub settings-formed : settingsFormed (b .settings) ≡ true
-  pub rows-formed : rowsFormed 0 (usedRows b) ≡ true
-
-pub formed-book : (b : Book) → wellFormed b ≡ true → FormedBook b
-unfolding wellFormed
-formed-book b h =
-    let k = and-eq-true-iff (leb (b .settings .meters) (capacity (b .rows)) && settingsFormed (b .settings)) (rowsFormed 0 (usedRows b)) .0 h in
-    let j = and-eq-true-iff (leb (b .settings .meters) (capacity (b .rows))) (settingsFormed (b .settings)) .0 (k .0) in
-    record { within = leb-true (b .settings .meters) (capacity (b .rows)) (j .0); settings-formed = j .1; rows-formed = k .1 }
-
-pub book-formed : (b : Book) → FormedBook b → wellFormed b ≡ true
-unfolding wellFormed
-book-formed b f = rw (le-leb (b .settings .meters) (capacity (b .rows)) (f .within), f .settings-formed, f .rows-formed)
-
-all-set : (test : ℕ → Bool) (xs : List ℕ) (i v : ℕ) → allOf test xs ≡ true → test v ≡ true → allOf test (set xs i v) ≡ true
-unfolding allOf
-all-set test [] i v h t = refl
-all-set test (x ∷ xs) zero v h t =
-    let k = and-eq-true-iff (test x) (allOf test xs) .0 h in
-    rw (t, k .1)
-all-set test (x ∷ xs) (suc i) v h t =
-    let k = and-eq-true-iff (test x) (allOf test xs) .0 h in
-    rw (k .0) (all-set test xs i v (k .1) t)
-
-record FormedSettings (s : Settings) : Type 0 where
-  weights-formed : allOf isWeight (s .weights) ≡ true
-  shapes-formed : allOf isShape (s .shapes) ≡ true
-  tolerance-formed : isTolerance (s .tolerance) ≡ true
-  take-formed : takeFormed (s .«take_set») (s .«take_wh») ≡ true
-
-formed-settings : (s : Settings) → settingsFormed s ≡ true → FormedSettings s
-unfolding settingsFormed
-formed-settings s h =
-    let weights = allOf isWeight (s .weights) in
-    let shapes = allOf isShape (s .shapes) in
-    let k = and-eq-true-iff (weights && shapes && isTolerance (s .tolerance)) (takeFormed (s .«take_set») (s .«take_wh»)) .0 h in
-    let j = and-eq-true-iff (weights && shapes) (isTolerance (s .tolerance)) .0 (k .0) in
-    let i = and-eq-true-iff weights shapes .0 (j .0) in
-    record { weights-formed = i .0; shapes-formed = i .1; tolerance-formed = j .1; take-formed = k .1 }
-
-settings-formed : (s : Settings) → FormedSettings s → settingsFormed s ≡ true
-unfolding settingsFormed
-settings-formed s f = rw (f .weights-formed, f .shapes-formed, f .tolerance-formed, f .take-formed)
-
 -- a setting in range replaced
-pub setting-formed : (x : Setting) (s : Settings) → settingInRange x ≡ true → settingsFormed s ≡ true → settingsFormed (withSetting x s) ≡ true
+setting-formed : (x : Setting) (s : Settings) → settingInRange x ≡ true → settingsFormed s ≡ true → settingsFormed (withSetting x s) ≡ true
 unfolding withSetting takeFormed
 setting-formed (shape k wh) s h f =
     let p = formed-settings s f in
@@ -94,7 +48,7 @@ setting-formed (groupTake wh) s h f =
     (record { weights-formed = p .weights-formed; shapes-formed = p .shapes-formed; tolerance-formed = p .tolerance-formed; take-formed = h })
 
 -- another number of meters
-pub meters-formed : (n : ℕ) (s : Settings) → settingsFormed s ≡ true → settingsFormed (withMeters n s) ≡ true
+meters-formed : (n : ℕ) (s : Settings) → settingsFormed s ≡ true → settingsFormed (withMeters n s) ≡ true
 unfolding settingsFormed
 meters-formed n s f = f
 

@@ -1,8 +1,7 @@
 -- What a list of calls means: document 01's cases, and that making the calls gives it. From the laws of lists up to the two theorems, `Meant` and `Moved`.
 pub mod Cases
 -- lists
-pub mod Snoc
-pub mod Each
+pub mod Lists
 pub mod Different
 -- what one more call at the end of a list changes in its meaning
 pub mod Newest

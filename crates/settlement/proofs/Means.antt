@@ -1,27 +1,24 @@
 -- A book is what a list of calls means: the statement, what it tells of the meters, and how it is kept by a refused call and by new rows.
 use Prim.Native.Nat.{ℕ, _≤_, _<_}
 use mathlib.Core.Path.{_≡_, refl, sym, _∙_, ap}
-use mathlib.Core.Bool.{true, false}
+use mathlib.Core.Bool.{true}
 use mathlib.Core.List.{List, [], _∷_, _++_, map}
-use native.Mathlib.Omega.{arith}
-use borrow.Author.Tests.{leb-true, leb-false}
-use lib.Dec.{leb}
 use lib.ListN.{length, length-map}
 use Rattle.words.specs.Reading.{issueOf}
 use Rattle.book.specs.Settings.{withMeters}
 use Rattle.book.specs.Rows.{Row, capacity, rowsOf, rowsFormed, isKnown, issueHeld, written}
 use Rattle.book.specs.Book.{Book, usedRows, wellFormed}
 use Rattle.book.specs.Calls.{Call, withRows}
-use Rattle.book.proofs.RowsOf.{length-rows}
 use Rattle.book.proofs.WellFormed.{room}
 use Rattle.book.proofs.Written.{length-written, rows-of-written}
-use Rattle.allocation.proofs.Permuted.{Permuted, back, mapped}
+use Rattle.allocation.proofs.Each.{each-mapped}
+use Rattle.allocation.proofs.Permuted.{Permuted, back, mapped, each-permuted, length-permuted}
 use Rattle.settlement.specs.Meaning.{settingSet, meantMpans, countedReadings, newestReading, meantMeter, meantMeters, meantSettings}
 use Rattle.settlement.specs.Demand.{isIn}
-use Rattle.settlement.proofs.Each.{each-mapped, each-permuted, length-permuted, in-permuted}
+use Rattle.settlement.proofs.Lists.{in-permuted}
 use Rattle.settlement.proofs.MeantSettings.{settings-kept}
 use Rattle.settlement.proofs.Stored.{mpanOf, known-in, GivenBy, issue-given}
-use Rattle.settlement.proofs.Formed.{formed-book, capacity-same, rows-stored-formed}
+use Rattle.settlement.proofs.Formed.{capacity-same, rows-stored-formed}
 
 -- the book b, on a slice as long as `words`, is well formed and is what the list means
 pub record Means (words : List ℕ) (b : Book) (calls : List Call) : Type 0 where
@@ -48,41 +45,19 @@ module _ (words : List ℕ) (b : Book) (calls : List Call) (means : Means words 
       ∙ in-permuted m (mapped mpanOf (means .meters-meant))
       ∙ ap (isIn m) (mpans-of calls (meantMpans (capacity words) calls))
 
-  pub count-meant : b .settings .meters ≡ length (meantMpans (capacity words) calls)
+  count-meant : b .settings .meters ≡ length (meantMpans (capacity words) calls)
   unfolding meantSettings
   count-meant = ap (λ s. s .meters) (means .settings-meant)
 
-  pub rows-counted : length (usedRows b) ≡ length (meantMpans (capacity words) calls)
-  unfolding usedRows
-  rows-counted = length-rows (b .settings .meters) (b .rows) ∙ count-meant
-
-  pub capacity-kept : capacity (b .rows) ≡ capacity words
+  capacity-kept : capacity (b .rows) ≡ capacity words
   capacity-kept = capacity-same (b .rows) words (means .size)
 
-  pub rows-within : length (usedRows b) ≤ capacity words
-  rows-within =
-      let count = rows-counted in
-      let meters = count-meant in
-      let same = capacity-kept in
-      let within = formed-book b (means .formed) .within in
-      omega arith
+  -- what the room in the book tells of the meters that the list means
+  pub room-left : b .settings .meters < capacity (b .rows) → length (meantMpans (capacity words) calls) < capacity words
+  room-left h = rw (count-meant, capacity-kept) at h
 
-  -- what the test of the capacity tells
-  pub room-left : leb (capacity (b .rows)) (b .settings .meters) ≡ false → length (usedRows b) < capacity words
-  room-left h =
-      let count = rows-counted in
-      let meters = count-meant in
-      let same = capacity-kept in
-      let above = leb-false (capacity (b .rows)) (b .settings .meters) h in
-      omega arith
-
-  pub no-room-left : leb (capacity (b .rows)) (b .settings .meters) ≡ true → capacity words ≤ length (usedRows b)
-  no-room-left h =
-      let count = rows-counted in
-      let meters = count-meant in
-      let same = capacity-kept in
-      let above = leb-true (capacity (b .rows)) (b .settings .meters) h in
-      omega arith
+  pub no-room-left : capacity (b .rows) ≤ b .settings .meters → capacity words ≤ length (meantMpans (capacity words) calls)
+  no-room-left h = rw (count-meant, capacity-kept) at h
 
   -- the issue that a known meter holds is that of the reading it is meant to have
   pub issue-meant : (m : ℕ) → isKnown m (usedRows b) ≡ true → issueHeld m (usedRows b) ≡ issueOf (newestReading (countedReadings calls m))
@@ -107,10 +82,9 @@ module _ (words : List ℕ) (b : Book) (calls : List Call) (means : Means words 
         }
 
     -- a call that leaves the meters that the list then means
-    pub rows-means : (rows : List Row) → rowsFormed 0 rows ≡ true → length rows ≤ capacity words → Permuted Row rows (meantMeters (capacity words) (calls ++ c ∷ [])) → Means words (withRows rows b) (calls ++ c ∷ [])
+    pub rows-means : (rows : List Row) → rowsFormed 0 rows ≡ true → length rows ≤ capacity (b .rows) → Permuted Row rows (meantMeters (capacity words) (calls ++ c ∷ [])) → Means words (withRows rows b) (calls ++ c ∷ [])
     unfolding usedRows
-    rows-means rows formed within meters =
-        let fits : length rows ≤ capacity (b .rows) = rw capacity-kept within in
+    rows-means rows formed fits meters =
         let back-again : rowsOf (length rows) (written rows (b .rows)) ≡ rows = rows-of-written (length rows) rows (b .rows) refl in
         let count : length rows ≡ length (meantMpans (capacity words) (calls ++ c ∷ [])) = length-permuted meters ∙ length-meters (capacity words) (calls ++ c ∷ []) in
         record {

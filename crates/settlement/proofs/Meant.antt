@@ -6,12 +6,13 @@ use lib.Seq.{take-nil}
 use Rattle.book.specs.Rows.{capacity, rowsOf}
 use Rattle.book.specs.Book.{Book, freshBook, usedRows}
 use Rattle.book.specs.Calls.{Call, register, reading, setting, callOutcome, bookAfter}
+use Rattle.book.proofs.WellFormed.{book-formed}
 use Rattle.book.proofs.Rising.{formed-none}
 use Rattle.allocation.proofs.Permuted.{none}
 use Rattle.settlement.specs.Meaning.{gather, mpanRegistered, different, meantMpans, meantMeters}
 use Rattle.settlement.proofs.Different.{different-apart, take-apart, apart-different}
 use Rattle.settlement.proofs.MeantSettings.{settings-fresh}
-use Rattle.settlement.proofs.Formed.{book-formed, fresh-formed}
+use Rattle.settlement.proofs.Formed.{fresh-formed}
 use Rattle.settlement.proofs.Means.{Means}
 use Rattle.settlement.proofs.SettingStep.{setting-step}
 use Rattle.settlement.proofs.RegisterStep.{register-step}

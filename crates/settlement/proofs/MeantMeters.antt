@@ -2,7 +2,7 @@
 use Prim.Native.Nat.{ℕ}
 use mathlib.Core.Path.{_≡_, refl, sym, _∙_, ap, fun-ext}
 use mathlib.Core.Bool.{true, false, _&&_, and-false, and-assoc, and-eq-true-iff, true≢false}
-use mathlib.Core.List.{List, [], _∷_, _++_, map}
+use mathlib.Core.List.{List, [], _∷_, _++_, map, map-append}
 use borrow.Author.Tests.{eqb-true, eq-eqb}
 use lib.Dec.{eqb}
 use Rattle.words.specs.declared.Registration.{Registration}
@@ -10,13 +10,13 @@ use Rattle.words.specs.declared.Reading.{Reading}
 use Rattle.words.specs.Mpan.{isMpan}
 use Rattle.words.specs.Registration.{registrationWord}
 use Rattle.words.specs.Reading.{readingWord, readingInRange, qualityAllowed}
+use Rattle.words.proofs.Tests.{by-test}
 use Rattle.book.specs.Rows.{Row}
 use Rattle.book.specs.Contracts.{row}
 use Rattle.book.specs.Calls.{Setting, Call, register, reading, setting, registerInRange, readingCallInRange}
 use Rattle.settlement.specs.Meaning.{only, gather, registrationSet, meantRegistration, readingFree, countedReadings, higherIssue, newestReading, mpanRegistered, meantMpans, meantMeter, meantMeters}
 use Rattle.settlement.specs.Demand.{isIn}
-use Rattle.settlement.proofs.Snoc.{by-test, map-append, gather-end, gather-nothing, last-end}
-use Rattle.settlement.proofs.Each.{map-same}
+use Rattle.settlement.proofs.Lists.{gather-end, gather-nothing, last-end, map-same}
 use Rattle.settlement.proofs.Counted.{isRegistered, counted-end, counted-kept}
 use Rattle.settlement.proofs.Newest.{newest-end}
 use Rattle.settlement.proofs.MeantSettings.{mpans-kept}

@@ -1,54 +1,36 @@
 -- What a list means for the settings, with one more call at its end: an in-range call that sets a setting replaces that setting, and no other call bears on them.
-use Prim.Native.Nat.{ℕ, zero, suc, _+_, _<_}
-use mathlib.Core.Path.{_≡_, refl, sym, _∙_, ap, fun-ext}
+use Prim.Native.Nat.{ℕ}
+use mathlib.Core.Path.{_≡_, refl, sym, _∙_, fun-ext}
 use mathlib.Core.Bool.{true, or-true}
 use mathlib.Core.List.{List, [], _∷_, _++_, map}
-use native.Mathlib.Nat.{le-of-suc-le-suc, not-suc-le-zero, add-zero, zero-add}
 use native.Mathlib.Omega.{arith}
 use borrow.Author.Tests.{eqb-true, eqb-false, eq-eqb, ne-eqb}
 use lib.Dec.{eqb}
-use lib.ListN.{length, getD, set, length-set, length-map}
-use lib.Seq.{take-nil, ext-getD, getD-set-same, getD-set-other}
+use lib.ListN.{length, getD, set, length-set}
+use lib.Seq.{take-nil, getD-set-same, getD-set-other}
+use Rattle.words.proofs.Tests.{by-test}
 use Rattle.book.specs.declared.Settings.{Settings}
 use Rattle.book.specs.Limits.{classes, categories}
 use Rattle.book.specs.Settings.{freshSettings, withMeters}
 use Rattle.book.specs.Calls.{Setting, shape, weight, tolerance, groupTake, Call, setting, settingInRange, withSetting}
 use Rattle.allocation.specs.Cells.{countFrom}
+use Rattle.allocation.proofs.Counting.{counted-length, counted-at, counted-list}
 use Rattle.settlement.specs.Meaning.{only, gather, lastOr, isAny, settingSet, settingsSet, weightSet, shapeSet, toleranceSet, takeSet, meantWeight, meantShape, meantTolerance, meantTake, meantTakeSet, mpanRegistered, different, meantMpans, meantSettings}
-use Rattle.settlement.proofs.Snoc.{by-test, gather-end, gather-nothing, last-kept, last-gathered, any-append}
-
-length-counted : (k n : ℕ) → length (countFrom k n) ≡ n
-unfolding countFrom
-length-counted k zero = refl
-length-counted k (suc n) = ap suc (length-counted (suc k) n)
-
-counted-at : (f : ℕ → ℕ) (k n i d : ℕ) → i < n → getD (map f (countFrom k n)) i d ≡ f (k + i)
-unfolding countFrom
-counted-at f k zero i d h = absurd (not-suc-le-zero h)
-counted-at f k (suc n) zero d h = sym (ap f (add-zero k))
-counted-at f k (suc n) (suc i) d h =
-    let e : suc k + i ≡ k + suc i = omega arith in
-    counted-at f (suc k) n i d (le-of-suc-le-suc h) ∙ ap f e
+use Rattle.settlement.proofs.Lists.{gather-end, gather-nothing, last-kept, last-gathered, any-append}
 
 -- one entry of a table replaced
-pub set-counted : (f g : ℕ → ℕ) (n k v : ℕ) → g k ≡ v → ((i : ℕ) → (i ≡ k → ⊥) → g i ≡ f i) → set (map f (countFrom 0 n)) k v ≡ map g (countFrom 0 n)
+set-counted : (f g : ℕ → ℕ) (n k v : ℕ) → g k ≡ v → ((i : ℕ) → (i ≡ k → ⊥) → g i ≡ f i) → set (map f (countFrom 0 n)) k v ≡ map g (countFrom 0 n)
 set-counted f g n k v here there =
-    let size : length (map f (countFrom 0 n)) ≡ n = length-map (countFrom 0 n) f ∙ length-counted 0 n in
-    let size′ : length (map g (countFrom 0 n)) ≡ n = length-map (countFrom 0 n) g ∙ length-counted 0 n in
-    let size-set = length-set (map f (countFrom 0 n)) k v in
-    let same : (i : ℕ) → i < length (set (map f (countFrom 0 n)) k v) → getD (set (map f (countFrom 0 n)) k v) i 0 ≡ getD (map g (countFrom 0 n)) i 0 =
-    λ i h.
-    let inside : i < n = omega arith in
-    let i-th : (e : ℕ → ℕ) → getD (map e (countFrom 0 n)) i 0 ≡ e i = λ e. counted-at e 0 n i 0 inside ∙ ap e (zero-add i) in
+    let table = map f (countFrom 0 n) in
+    counted-list g n (set table k v) 0 (length-set table k v ∙ counted-length f n)
+    (λ i h.
     by-test (eqb i k)
     (λ q.
     let e = eqb-true i k q in
-    rw (i-th g, e, getD-set-same (map f (countFrom 0 n)) k v 0 (omega arith)) (sym here))
+    rw e (getD-set-same table k v 0 (omega (arith, counted-length f n)) ∙ sym here))
     (λ q.
     let e = eqb-false i k q in
-    getD-set-other (map f (countFrom 0 n)) k i v 0 e ∙ i-th f ∙ sym (there i e) ∙ sym (i-th g))
-    in
-    ext-getD 0 (set (map f (countFrom 0 n)) k v) (map g (countFrom 0 n)) (size-set ∙ size ∙ sym size′) same
+    getD-set-other table k i v 0 e ∙ counted-at f n i 0 h ∙ sym (there i e)))
 
 -- a table of settings: for each number the last one set, or the fresh one
 unfoldable tableOf : (ℕ → ℕ) → (ℕ → Setting → List ℕ) → List Setting → ℕ → ℕ

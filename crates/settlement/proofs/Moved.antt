@@ -7,8 +7,7 @@ use Rattle.words.specs.declared.Reading.{Reading}
 use Rattle.book.specs.Calls.{Call, register, reading, setting}
 use Rattle.settlement.specs.Meaning.{gather, settingSet, mpanRegistered, meantMpans, registrationSet, meantRegistration, countedReadings, meantMeter, meantMeters, meantSettings}
 use Rattle.settlement.specs.Demand.{otherCall, isIn, MovedReadings}
-use Rattle.settlement.proofs.Snoc.{gather-append}
-use Rattle.settlement.proofs.Each.{map-same}
+use Rattle.settlement.proofs.Lists.{gather-append, map-same}
 use Rattle.settlement.proofs.Newest.{same-newest}
 use Rattle.settlement.proofs.Counted.{counted-in-range}
 use Rattle.settlement.proofs.MeantSettings.{settings-same}

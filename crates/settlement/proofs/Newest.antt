@@ -10,11 +10,11 @@ use lib.Dec.{ltb, eqb}
 use Rattle.words.specs.declared.Reading.{Reading}
 use Rattle.words.specs.Reading.{issueOf, noReading, readingWord, readingInRange}
 use Rattle.words.proofs.Ranges.{reading-bounds}
-use Rattle.words.proofs.ReadingWord.{issue-kept}
+use Rattle.words.proofs.ReadingWord.{reading-packed}
+use Rattle.words.proofs.Tests.{by-test}
+use Rattle.allocation.proofs.Each.{Each, no-entry, entry}
 use Rattle.settlement.specs.Meaning.{only, gather, higherIssue, newestReading}
 use Rattle.settlement.specs.Demand.{ofIssue, firstOr, earliestOf}
-use Rattle.settlement.proofs.Snoc.{by-test}
-use Rattle.settlement.proofs.Each.{Each, no-entry, entry}
 
 module _ (word later : ℕ) where
   pub later-higher : issueOf word < issueOf later → higherIssue word later ≡ later
@@ -52,7 +52,7 @@ pub record InRange (r : Reading) : Type 0 where
 
 module _ (r : Reading) (ok : readingInRange r ≡ true) where
   issue-some : issueOf noReading < issueOf (readingWord r)
-  issue-some = rw (issue-kept r ok) (omega (arith, reading-bounds r ok))
+  issue-some = rw (reading-packed r ok .issue) (omega (arith, reading-bounds r ok))
 
   -- one more reading at the end
   pub newest-end : (readings : List Reading) → newestReading (readings ++ r ∷ []) ≡ higherIssue (newestReading readings) (readingWord r)
@@ -99,7 +99,7 @@ newest-earliest [] no-entry = refl
 newest-earliest (r ∷ readings) (entry ok each) =
     let word = readingWord r in
     let newest = newestReading readings in
-    let kept = issue-kept r (ok .in-range) in
+    let kept = reading-packed r (ok .in-range) .issue in
     by-issue word newest
     (λ h.
     rw (later-higher word newest h)

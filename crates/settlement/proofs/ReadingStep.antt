@@ -8,24 +8,24 @@ use lib.Dec.{leb, eqb}
 use Rattle.words.specs.declared.Reading.{Reading}
 use Rattle.words.specs.Mpan.{isMpan}
 use Rattle.words.specs.Reading.{issueOf, readingInRange, qualityAllowed, readingWord}
-use Rattle.words.proofs.ReadingWord.{issue-kept}
+use Rattle.words.proofs.ReadingWord.{reading-packed}
+use Rattle.words.proofs.Tests.{by-test}
 use Rattle.book.specs.Rows.{Row, capacity, isKnown, issueHeld, withReading}
 use Rattle.book.specs.Book.{Book, usedRows}
-use Rattle.book.specs.Calls.{Call, reading, outcome, readingCallInRange, readingCause, readingCall}
-use Rattle.book.proofs.WithReading.{length-reading}
+use Rattle.book.specs.Calls.{Call, reading, readingCallInRange, readingCall}
+use Rattle.book.proofs.WellFormed.{formed-book}
+use Rattle.book.proofs.ReadingCall.{reading-out-of-range, reading-of-refused-quality, reading-of-unknown-meter, reading-not-above, reading-above}
 use Rattle.allocation.proofs.Permuted.{Permuted, mapped}
 use Rattle.settlement.specs.Meaning.{gather, settingSet, mpanRegistered, meantMpans, countedReadings, newestReading, meantMeter, meantMeters}
-use Rattle.settlement.proofs.Snoc.{by-test, eqb-either-way}
-use Rattle.settlement.proofs.Each.{map-after}
+use Rattle.settlement.proofs.Lists.{eqb-either-way, map-after}
 use Rattle.settlement.proofs.Different.{in-different, in-take}
 use Rattle.settlement.proofs.Newest.{later-higher, earlier-kept}
 use Rattle.settlement.proofs.Counted.{isRegistered, registered-in}
 use Rattle.settlement.proofs.MeantSettings.{mpans-kept}
 use Rattle.settlement.proofs.MeantMeters.{meters-kept, reading-refused, read-other, read-itself, others-read}
 use Rattle.settlement.proofs.Stored.{atMeter, readAs, changed-here, changed-not, reading-mapped}
-use Rattle.settlement.proofs.Formed.{formed-book}
-use Rattle.settlement.proofs.CallFormed.{read-rows-formed}
-use Rattle.settlement.proofs.Means.{Means, known-meant, rows-within, issue-meant, refused-means, rows-means}
+use Rattle.settlement.proofs.CallFormed.{read-rows-formed, read-rows-fit}
+use Rattle.settlement.proofs.Means.{Means, known-meant, issue-meant, refused-means, rows-means}
 
 module _ (words : List ℕ) (b : Book) (calls : List Call) (means : Means words b calls) (m : ℕ) (r : Reading) where
   mpans-same : meantMpans (capacity words) (calls ++ reading m r ∷ []) ≡ meantMpans (capacity words) calls
@@ -41,21 +41,19 @@ module _ (words : List ℕ) (b : Book) (calls : List Call) (means : Means words 
   unfolding mpanRegistered
   not-counted h = kept (meters-kept (capacity words) calls (reading m r) refl (λ k. reading-refused calls m r k h))
 
-  reading-out-of-range : readingCallInRange m r ≡ false → Means words (readingCall b m r .book) (calls ++ reading m r ∷ [])
-  unfolding readingCall readingCause outcome
-  reading-out-of-range h = rw (means .formed, h) (not-counted (rw h))
+  out-of-range : readingCallInRange m r ≡ false → Means words (readingCall b m r .book) (calls ++ reading m r ∷ [])
+  out-of-range h = rw (reading-out-of-range b m r (means .formed) h) (not-counted (rw h))
 
   module _ (range : readingCallInRange m r ≡ true) where
     quality-refused : qualityAllowed r ≡ false → Means words (readingCall b m r .book) (calls ++ reading m r ∷ [])
-    unfolding readingCall readingCause outcome
-    quality-refused h = rw (means .formed, range, h) (not-counted (rw (range, h)))
+    quality-refused h = rw (reading-of-refused-quality b m r (means .formed) range h) (not-counted (rw (range, h)))
 
     module _ (quality : qualityAllowed r ≡ true) where
       meter-unknown : isKnown m (usedRows b) ≡ false → Means words (readingCall b m r .book) (calls ++ reading m r ∷ [])
-      unfolding readingCall readingCause outcome meantMeters
+      unfolding meantMeters
       meter-unknown h =
           let absent = sym (known-meant words b calls means m) ∙ h in
-          rw (means .formed, range, quality, h)
+          rw (reading-of-unknown-meter b m r (means .formed) range quality h)
           (kept (rw mpans-same (others-read calls m (meantMpans (capacity words) calls) absent r)))
 
       module _ (known : isKnown m (usedRows b) ≡ true) where
@@ -73,27 +71,27 @@ module _ (words : List ℕ) (b : Book) (calls : List Call) (means : Means words 
         held : issueHeld m (usedRows b) ≡ issueOf (newestReading (countedReadings calls m))
         held = issue-meant words b calls means m known
 
-        issue-not-above : leb (r .issue) (issueHeld m (usedRows b)) ≡ true → Means words (readingCall b m r .book) (calls ++ reading m r ∷ [])
-        unfolding readingCall readingCause outcome mpanRegistered meantMeter
+        issue-not-above : r .issue ≤ issueHeld m (usedRows b) → Means words (readingCall b m r .book) (calls ++ reading m r ∷ [])
+        unfolding mpanRegistered meantMeter
         issue-not-above h =
             let newest = newestReading (countedReadings calls m) in
-            let not-above : issueOf (readingWord r) ≤ issueOf newest = rw (issue-kept r in-range, ← held) (leb-true (r .issue) (issueHeld m (usedRows b)) h) in
+            let not-above : issueOf (readingWord r) ≤ issueOf newest = rw (reading-packed r in-range .issue, ← held) h in
             let same : (k : ℕ) → meantMeter (calls ++ reading m r ∷ []) k ≡ meantMeter calls k =
             λ k.
             by-test (eqb k m)
             (λ e. rw (eqb-true k m e) (read-itself calls m r range quality registered ∙ rw (earlier-kept newest (readingWord r) not-above)))
             (λ e. read-other calls m r k (eqb-either-way m k ∙ e))
             in
-            rw (means .formed, range, quality, known, h)
+            rw (reading-not-above b m r (means .formed) range quality known h)
             (kept (meters-kept (capacity words) calls (reading m r) refl same))
 
-        module _ (above : leb (r .issue) (issueHeld m (usedRows b)) ≡ false) where
+        module _ (above : issueHeld m (usedRows b) < r .issue) where
           -- the list gives that meter the reading, and leaves every other meter
           read-meter : (k : ℕ) → meantMeter (calls ++ reading m r ∷ []) k ≡ atMeter m (readAs (readingWord r)) (meantMeter calls k)
           unfolding meantMeter
           read-meter k =
               let newest = newestReading (countedReadings calls m) in
-              let higher : issueOf newest < issueOf (readingWord r) = rw (issue-kept r in-range, ← held) (leb-false (r .issue) (issueHeld m (usedRows b)) above) in
+              let higher : issueOf newest < issueOf (readingWord r) = rw (reading-packed r in-range .issue, ← held) above in
               let change = readAs (readingWord r) in
               by-test (eqb k m)
               (λ e. rw (eqb-true k m e) (read-itself calls m r range quality registered ∙ rw (later-higher newest (readingWord r) higher) (sym (changed-here m change (meantMeter calls m) refl))))
@@ -111,13 +109,11 @@ module _ (words : List ℕ) (b : Book) (calls : List Call) (means : Means words 
               (mapped change (means .meters-meant))
 
           reading-stored : Means words (readingCall b m r .book) (calls ++ reading m r ∷ [])
-          unfolding readingCall readingCause outcome settingSet
+          unfolding settingSet
           reading-stored =
-              let word = readingWord r in
-              let rows = withReading m word (usedRows b) in
-              let formed = read-rows-formed b (means .formed) m r range quality in
-              rw (means .formed, range, quality, known, above)
-              (rows-means words b calls means (reading m r) refl rows formed (rw (length-reading m word (usedRows b)) (rows-within words b calls means)) read-meters)
+              rw (reading-above b m r (means .formed) range quality known above)
+              (rows-means words b calls means (reading m r) refl (withReading m (readingWord r) (usedRows b))
+              (read-rows-formed b (means .formed) m r range quality) (read-rows-fit b (means .formed) m r) read-meters)
 
   pub reading-step : Means words (readingCall b m r .book) (calls ++ reading m r ∷ [])
   reading-step =
@@ -128,8 +124,8 @@ module _ (words : List ℕ) (b : Book) (calls : List Call) (means : Means words 
       by-test (isKnown m (usedRows b))
       (λ known.
       by-test (leb (r .issue) (issueHeld m (usedRows b)))
-      (λ h. issue-not-above range quality known h)
-      (λ above. reading-stored range quality known above))
+      (λ t. issue-not-above range quality known (leb-true (r .issue) (issueHeld m (usedRows b)) t))
+      (λ t. reading-stored range quality known (leb-false (r .issue) (issueHeld m (usedRows b)) t)))
       (λ unknown. meter-unknown range quality unknown))
       (λ refused. quality-refused range refused))
-      reading-out-of-range
+      out-of-range

@@ -1,37 +1,36 @@
 -- A register call, made on a book that is what a list means, leaves the book that the list with this call means: out of range, of a known meter, of a new one, and of a new one when the book is full.
-use Prim.Native.Nat.{ℕ, _<_}
+use Prim.Native.Nat.{ℕ, _≤_, _<_}
 use mathlib.Core.Path.{_≡_, refl, sym, _∙_}
 use mathlib.Core.Bool.{true, false}
-use mathlib.Core.List.{List, [], _∷_, _++_}
-use native.Mathlib.Omega.{arith}
-use borrow.Author.Tests.{eqb-true, eqb-false}
+use mathlib.Core.List.{List, [], _∷_, _++_, map-append}
+use borrow.Author.Tests.{leb-true, leb-false, eqb-true, eqb-false}
 use lib.Dec.{leb, eqb}
 use lib.ListN.{length}
 use Rattle.words.specs.declared.Registration.{Registration}
 use Rattle.words.specs.Registration.{registrationWord}
+use Rattle.words.proofs.Tests.{by-test}
 use Rattle.book.specs.Rows.{Row, capacity, isKnown, newRow, withRegistration}
 use Rattle.book.specs.Book.{Book, usedRows}
-use Rattle.book.specs.Calls.{Call, register, outcome, registerInRange, hasNoRoom, registerCause, registerCall}
-use Rattle.book.proofs.WithRegistration.{length-inserted, length-replaced}
+use Rattle.book.specs.Calls.{Call, register, registerInRange, registerCall}
+use Rattle.book.proofs.WellFormed.{formed-book}
+use Rattle.book.proofs.RegisterCall.{register-out-of-range, register-no-room, register-known, register-new}
 use Rattle.allocation.proofs.Permuted.{Permuted, keep, chain, to-the-end, mapped}
 use Rattle.settlement.specs.Meaning.{only, gather, settingSet, mpanRegistered, meantMpans, newestReading, meantMeter, meantMeters}
 use Rattle.settlement.specs.Demand.{isIn}
-use Rattle.settlement.proofs.Snoc.{by-test, eqb-either-way, map-append, gather-end}
-use Rattle.settlement.proofs.Each.{map-after}
+use Rattle.settlement.proofs.Lists.{eqb-either-way, gather-end, map-after}
 use Rattle.settlement.proofs.Different.{first-again, first-none, first-new, first-full}
 use Rattle.settlement.proofs.Counted.{registered-in, counted-none}
 use Rattle.settlement.proofs.MeantSettings.{mpans-kept}
 use Rattle.settlement.proofs.MeantMeters.{meters-kept, registration-refused, registered-other, registered-itself, others-registered}
 use Rattle.settlement.proofs.Stored.{atMeter, registeredAs, changed-here, changed-not, registration-mapped, registration-added}
-use Rattle.settlement.proofs.Formed.{formed-book}
-use Rattle.settlement.proofs.CallFormed.{registered-rows-formed}
-use Rattle.settlement.proofs.Means.{Means, known-meant, rows-counted, rows-within, room-left, no-room-left, refused-means, rows-means}
+use Rattle.settlement.proofs.CallFormed.{registered-rows-formed, known-row-fits, new-row-fits}
+use Rattle.settlement.proofs.Means.{Means, known-meant, room-left, no-room-left, refused-means, rows-means}
 
 module _ (words : List ℕ) (b : Book) (calls : List Call) (means : Means words b calls) (m : ℕ) (r : Registration) where
-  register-out-of-range : registerInRange m r ≡ false → Means words (registerCall b m r .book) (calls ++ register m r ∷ [])
-  unfolding registerCall registerCause outcome settingSet mpanRegistered only
-  register-out-of-range h =
-      rw (means .formed, h)
+  out-of-range : registerInRange m r ≡ false → Means words (registerCall b m r .book) (calls ++ register m r ∷ [])
+  unfolding settingSet mpanRegistered only
+  out-of-range h =
+      rw (register-out-of-range b m r (means .formed) h)
       (refused-means words b calls means (register m r) refl
       (mpans-kept (capacity words) calls (register m r) (rw h))
       (meters-kept (capacity words) calls (register m r) (rw h) (λ k. registration-refused calls m r k h)))
@@ -65,24 +64,20 @@ module _ (words : List ℕ) (b : Book) (calls : List Call) (means : Means words 
           )
           (mapped change (means .meters-meant))
 
-      register-known : Means words (registerCall b m r .book) (calls ++ register m r ∷ [])
-      unfolding registerCall registerCause hasNoRoom outcome settingSet
-      register-known =
-          let rows = withRegistration m (registrationWord r) (usedRows b) in
-          let long : length rows ≡ length (usedRows b) = length-replaced 0 m (registrationWord r) (usedRows b) (formed-book b (means .formed) .rows-formed) known in
-          rw (means .formed, range, known)
-          (rows-means words b calls means (register m r) refl rows (registered-rows-formed b (means .formed) m r range) (rw long (rows-within words b calls means)) known-meters)
+      known-step : Means words (registerCall b m r .book) (calls ++ register m r ∷ [])
+      unfolding settingSet
+      known-step =
+          rw (register-known b m r (means .formed) range known)
+          (rows-means words b calls means (register m r) refl (withRegistration m (registrationWord r) (usedRows b))
+          (registered-rows-formed b (means .formed) m r range) (known-row-fits b (means .formed) m r known) known-meters)
 
     module _ (unknown : isKnown m (usedRows b) ≡ false) where
       absent : isIn m (meantMpans (capacity words) calls) ≡ false
       absent = sym (known-meant words b calls means m) ∙ unknown
 
-      module _ (room : leb (capacity (b .rows)) (b .settings .meters) ≡ false) where
+      module _ (free : b .settings .meters < capacity (b .rows)) where
         fewer : length (meantMpans (capacity words) calls) < capacity words
-        fewer =
-            let count = rows-counted words b calls means in
-            let left = room-left words b calls means room in
-            omega arith
+        fewer = room-left words b calls means free
 
         new-mpans : meantMpans (capacity words) (calls ++ register m r ∷ []) ≡ meantMpans (capacity words) calls ++ m ∷ []
         unfolding meantMpans
@@ -105,33 +100,29 @@ module _ (words : List ℕ) (b : Book) (calls : List Call) (means : Means words 
               others-registered calls m (meantMpans (capacity words) calls) absent r,
             )
 
-        register-new : Means words (registerCall b m r .book) (calls ++ register m r ∷ [])
-        unfolding registerCall registerCause hasNoRoom outcome settingSet
-        register-new =
+        new-step : Means words (registerCall b m r .book) (calls ++ register m r ∷ [])
+        unfolding settingSet
+        new-step =
             let word = registrationWord r in
             let rows = withRegistration m word (usedRows b) in
-            let long = length-inserted m word (usedRows b) unknown in
-            let left = room-left words b calls means room in
             let more : Permuted Row rows (meantMeters (capacity words) (calls ++ register m r ∷ [])) =
             rw new-meters
             (chain (registration-added m word (usedRows b) unknown)
             (chain (keep (means .meters-meant)) (to-the-end (newRow m word) (meantMeters (capacity words) calls))))
             in
-            rw (means .formed, range, unknown, room)
-            (rows-means words b calls means (register m r) refl rows (registered-rows-formed b (means .formed) m r range) (omega arith) more)
+            rw (register-new b m r (means .formed) range unknown free)
+            (rows-means words b calls means (register m r) refl rows
+            (registered-rows-formed b (means .formed) m r range) (new-row-fits b (means .formed) m r unknown free) more)
 
-      module _ (no-room : leb (capacity (b .rows)) (b .settings .meters) ≡ true) where
+      module _ (full : capacity (b .rows) ≤ b .settings .meters) where
         full-mpans : meantMpans (capacity words) (calls ++ register m r ∷ []) ≡ meantMpans (capacity words) calls
         unfolding meantMpans
-        full-mpans =
-            let count = rows-counted words b calls means in
-            let full = no-room-left words b calls means no-room in
-            rw mpan-last (first-full (capacity words) m (gather mpanRegistered calls) (rw count at full))
+        full-mpans = rw mpan-last (first-full (capacity words) m (gather mpanRegistered calls) (no-room-left words b calls means full))
 
-        register-full : Means words (registerCall b m r .book) (calls ++ register m r ∷ [])
-        unfolding registerCall registerCause hasNoRoom outcome settingSet meantMeters
-        register-full =
-            rw (means .formed, range, unknown, no-room)
+        full-step : Means words (registerCall b m r .book) (calls ++ register m r ∷ [])
+        unfolding settingSet meantMeters
+        full-step =
+            rw (register-no-room b m r (means .formed) range unknown full)
             (refused-means words b calls means (register m r) refl full-mpans
             (rw full-mpans (others-registered calls m (meantMpans (capacity words) calls) absent r)))
 
@@ -140,9 +131,9 @@ module _ (words : List ℕ) (b : Book) (calls : List Call) (means : Means words 
       by-test (registerInRange m r)
       (λ range.
       by-test (isKnown m (usedRows b))
-      (λ known. register-known range known)
+      (λ known. known-step range known)
       (λ unknown.
       by-test (leb (capacity (b .rows)) (b .settings .meters))
-      (λ full. register-full range unknown full)
-      (λ room. register-new range unknown room)))
-      register-out-of-range
+      (λ t. full-step range unknown (leb-true (capacity (b .rows)) (b .settings .meters) t))
+      (λ t. new-step range unknown (leb-false (capacity (b .rows)) (b .settings .meters) t))))
+      out-of-range

@@ -3,11 +3,11 @@ use Prim.Native.Nat.{ℕ}
 use mathlib.Core.Path.{_≡_, refl, sym, _∙_, ap}
 use mathlib.Core.Bool.{true, false}
 use mathlib.Core.List.{List, [], _∷_, _++_}
+use Rattle.words.proofs.Tests.{by-test}
 use Rattle.book.specs.Rows.{capacity}
 use Rattle.book.specs.Book.{Book, usedRows}
 use Rattle.book.specs.Calls.{Setting, Call, setting, outcome, settingInRange, withSetting, settingCause, settingCall}
 use Rattle.settlement.specs.Meaning.{only, settingSet, mpanRegistered}
-use Rattle.settlement.proofs.Snoc.{by-test}
 use Rattle.settlement.proofs.MeantSettings.{mpans-kept, settings-set}
 use Rattle.settlement.proofs.MeantMeters.{meters-kept, set-kept}
 use Rattle.settlement.proofs.Formed.{count-kept, set-formed}

@@ -1,33 +1,30 @@
 -- Demand 3: every whole list of calls from a fresh book, and the accepted allocation after it. Making the calls gives what the list means, an allocation
 -- does not depend on the order of the meters, and an accepted one carries the Take with each volume under 1 Wh from its share. Assumes nothing.
-use Prim.Native.Nat.{ℕ, _+_, _≤_, _<_}
-use mathlib.Core.Path.{_≡_, refl, sym, _∙_, ap, ap₂, subst, subst₂}
+use Prim.Native.Nat.{ℕ, _≤_, _<_}
+use mathlib.Core.Path.{_≡_, sym, _∙_, ap, ap₂, subst, subst₂}
 use mathlib.Core.Bool.{not}
-use mathlib.Core.List.{List, map}
+use mathlib.Core.List.{List}
 use borrow.Author.Tests.{le-ltb}
 use lib.Dec.{ltb}
 use lib.IntN.{ℤ, pos, natAbs, _-ℤ_, _*ℤ_}
 use lib.ListN.{length, getD, take}
-use Rattle.integers.specs.Sum.{sum}
 use Rattle.book.specs.declared.Settings.{Settings}
 use Rattle.book.specs.Rows.{Row, capacity}
 use Rattle.book.specs.Book.{Book, freshBook, usedRows, wellFormed}
 use Rattle.book.specs.Causes.{accepted}
 use Rattle.book.specs.Calls.{Call, bookAfter}
 use Rattle.book.proofs.Answers.{passed}
-use Rattle.allocation.specs.declared.Allocated.{Allocated}
-use Rattle.allocation.specs.Energy.{Counts, countsOf}
 use Rattle.allocation.specs.declared.UnitSums.{UnitSums}
 use Rattle.allocation.specs.Correction.{units, allUnitSums, weightedTotal}
 use Rattle.allocation.specs.Volumes.{volumesOf}
-use Rattle.allocation.specs.Allocate.{metersCause, allocationCause, Allocation, figuresOf, allocateCall}
+use Rattle.allocation.specs.Allocate.{metersCause, allocationCause, figuresOf, allocateCall}
 use Rattle.allocation.proofs.Permuted.{Permuted, back, chain}
 use Rattle.allocation.proofs.AnyOrder.{sums-any-order, cause-any-order, figures-any-order}
 use Rattle.allocation.proofs.Apportioned.{numeratorsOf}
 use Rattle.allocation.proofs.Counted.{counts-total}
 use Rattle.allocation.proofs.Outcome.{sumsOf, number-given, accepted-answer, accepted-volumes, accepted-total, accepted-distance}
 use Rattle.settlement.specs.Meaning.{meantTake, meantMpans, meantMeters, meantSettings}
-use Rattle.settlement.specs.Demand.{allocationAfter, meantSums, meantNumerators, MovedReadings, countsAnswered, Settled, Demand3}
+use Rattle.settlement.specs.Demand.{allocationAfter, meantSums, meantNumerators, MovedReadings, countsAnswered, Demand3}
 use Rattle.settlement.proofs.Formed.{capacity-same}
 use Rattle.settlement.proofs.Means.{Means, length-meters}
 use Rattle.settlement.proofs.Meant.{list-meant}

@@ -7,14 +7,15 @@ use native.Mathlib.Omega.{arith}
 use borrow.Author.Tests.{lt-ltb, le-ltb, eqb-true, eqb-false, eq-eqb, ne-eqb}
 use lib.Dec.{eqb}
 use Rattle.words.specs.Reading.{issueOf}
+use Rattle.words.proofs.Tests.{by-test}
 use Rattle.book.specs.Rows.{Row, rowsFormed, isKnown, issueHeld, newRow, withRegistration, withReading}
 use Rattle.book.specs.Contracts.{row}
 use Rattle.book.proofs.Rising.{formed-first}
 use Rattle.book.proofs.PlaceOf.{by-mpan, known-next, known-here, none-above}
+use Rattle.allocation.proofs.Each.{Each, entry}
 use Rattle.allocation.proofs.Permuted.{Permuted, keep, exchange, chain, as-it-is}
 use Rattle.settlement.specs.Demand.{isIn}
-use Rattle.settlement.proofs.Snoc.{by-test, eqb-either-way}
-use Rattle.settlement.proofs.Each.{Each, entry}
+use Rattle.settlement.proofs.Lists.{eqb-either-way}
 
 -- the row of the meter m changed, and any other as it was
 unfoldable pub atMeter : ℕ → (Row → Row) → Row → Row

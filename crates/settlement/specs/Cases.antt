@@ -5,11 +5,10 @@ use mathlib.Core.List.{List, [], _∷_, _++_}
 use lib.Dec.{eqb}
 use lib.IntN.{ℤ, pos, negℤ, natAbs, _-ℤ_}
 use lib.ListN.{getD, replicate}
-use Rattle.words.specs.declared.Registration.{Registration}
 use Rattle.book.specs.declared.Settings.{Settings}
 use Rattle.book.specs.Rows.{Row, capacity}
 use Rattle.book.specs.Book.{Book, freshBook, usedRows}
-use Rattle.book.specs.Calls.{shape, weight, tolerance, groupTake, Call, register, reading, setting, bookAfter, numbersGiven}
+use Rattle.book.specs.Calls.{weight, tolerance, groupTake, Call, register, reading, setting, bookAfter, numbersGiven}
 use Rattle.allocation.specs.Cells.{cell}
 use Rattle.allocation.specs.declared.Allocated.{Allocated}
 use Rattle.allocation.specs.Correction.{allUnitSums}

@@ -9,7 +9,7 @@ use lib.ListN.{length, getD, take}
 use Rattle.integers.specs.Sum.{sum}
 use Rattle.words.specs.declared.Reading.{Reading}
 use Rattle.words.specs.Reading.{noReading, readingWord}
-use Rattle.book.specs.Rows.{Row, capacity}
+use Rattle.book.specs.Rows.{capacity}
 use Rattle.book.specs.Book.{freshBook}
 use Rattle.book.specs.Causes.{accepted}
 use Rattle.book.specs.Calls.{Call, register, reading, setting, bookAfter}

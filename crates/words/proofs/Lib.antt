@@ -1,4 +1,5 @@
 -- Laws of the three words, for this crate's functions and for the crates above.
+pub mod Tests
 pub mod BitField
 pub mod Ranges
 pub mod RegistrationWord

@@ -1,8 +1,8 @@
 -- What the tests of a registration and of a reading tell, as bounds that `omega` reads.
 use Prim.Native.Nat.{ℕ, _*_, _≤_}
-use mathlib.Core.Path.{_≡_, refl}
-use mathlib.Core.Bool.{Bool, true, false, _&&_, _||_, and-eq-true-iff}
-use mathlib.Core.Logic.{_⊎_, inl, inr, ⊎-elim}
+use mathlib.Core.Path.{_≡_}
+use mathlib.Core.Bool.{true, _&&_, and-eq-true-iff}
+use mathlib.Core.Logic.{⊎-elim}
 use native.Mathlib.Omega.{arith}
 use lib.Dec.{leb, eqb}
 use borrow.Author.Tests.{leb-true, eqb-true}
@@ -11,11 +11,7 @@ use Rattle.words.specs.declared.Reading.{Reading}
 use Rattle.words.specs.Limits.{segmentMost, directionMost, statusMost, unitMost, categoryMost, llfLeast, llfMost, consumptionMost, qualityMost, issueLeast, issueMost}
 use Rattle.words.specs.Registration.{additionalInRange, registrationInRange}
 use Rattle.words.specs.Reading.{readingInRange}
-
--- a disjunction of tests that passes, taken apart; a conjunction is taken apart by the library's `and-eq-true-iff`
-pub either : (a b : Bool) → a || b ≡ true → (a ≡ true) ⊎ (b ≡ true)
-either true b e = inl refl
-either false b e = inr e
+use Rattle.words.proofs.Tests.{either}
 
 -- the bounds of a registration's fields; the additional number is 0 unless the flag is set
 pub record RegistrationBounds (s d t b f a c l : ℕ) : Type 0 where

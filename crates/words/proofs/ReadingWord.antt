@@ -12,32 +12,28 @@ use Rattle.words.specs.Limits.{consumptionMost, qualityMost}
 use Rattle.words.specs.Registration.{bitField}
 use Rattle.words.specs.Reading.{consumptionOf, qualityOf, issueOf, noReading, readingOf, readingWord, readingInRange, qualityAllowed, isReading}
 use Rattle.words.proofs.BitField.{join}
-use Rattle.words.proofs.Ranges.{ReadingBounds, reading-bounds, either}
-
-pub no-reading-issue : issueOf noReading ≡ 0
-no-reading-issue = refl
+use Rattle.words.proofs.Tests.{either}
+use Rattle.words.proofs.Ranges.{ReadingBounds, reading-bounds}
 
 pub no-reading-well-formed : isReading noReading ≡ true
 unfolding isReading
 no-reading-well-formed = refl
 
+-- the fields of a word are those of a reading
+pub record ReadingPacked (r : Reading) (w : ℕ) : Type 0 where
+  pub issue : issueOf w ≡ r .issue
+  pub quality : qualityOf w ≡ r .quality
+  pub consumption : consumptionOf w ≡ r .consumption
+
 module _ (r : Reading) (ok : readingInRange r ≡ true) where
-  pub issue-kept : issueOf (readingWord r) ≡ r .issue
+  pub reading-packed : ReadingPacked r (readingWord r)
   unfolding readingWord
-  issue-kept = omega (arith, reading-bounds r ok)
-
-  pub quality-kept : qualityOf (readingWord r) ≡ r .quality
-  unfolding readingWord
-  quality-kept = omega (arith, reading-bounds r ok)
-
-  pub consumption-kept : consumptionOf (readingWord r) ≡ r .consumption
-  unfolding readingWord
-  consumption-kept = omega (arith, reading-bounds r ok)
+  reading-packed = omega (arith, reading-bounds r ok)
 
   pub reading-round-trip : readingOf (readingWord r) ≡ r
   unfolding readingOf
   reading-round-trip =
-      λ i. record { issue = issue-kept i; quality = quality-kept i; consumption = consumption-kept i }
+      λ i. record { issue = reading-packed .issue i; quality = reading-packed .quality i; consumption = reading-packed .consumption i }
 
   pub reading-word-fits : readingWord r < 2 ^ 64
   unfolding readingWord

@@ -1,6 +1,6 @@
 -- Word 1: what is packed is what is unpacked, and a word is well formed exactly if a registration in range has it.
 use Prim.Native.Nat.{ℕ, _/_, _^_, _≤_, _<_}
-use mathlib.Core.Path.{_≡_, refl}
+use mathlib.Core.Path.{_≡_}
 use mathlib.Core.Bool.{Bool, true, false, cond, and-eq-true-iff}
 use native.Mathlib.Nat.{div-one, mod-eq-of-lt}
 use native.Mathlib.Omega.{arith}
@@ -12,64 +12,44 @@ use Rattle.words.specs.Registration.{segmentOf, directionOf, statusOf, b
 use Rattle.words.proofs.BitField.{join}
 use Rattle.words.proofs.Ranges.{RegistrationBounds, registration-bounds}
 
+-- the fields of a word are those of a registration
+pub record RegistrationPacked (r : Registration) (w : ℕ) : Type 0 where
+  pub segment : segmentOf w ≡ r .segment
+  pub direction : directionOf w ≡ r .direction
+  pub status : statusOf w ≡ r .status
+  pub base : baseOf w ≡ r .base
+  pub flag : flagOf w ≡ r .flag
+  pub additional : additionalOf w ≡ r .additional
+  pub category : categoryOf w ≡ r .category
+  pub llf : llfOf w ≡ r .llf
+
 module _ (r : Registration) (ok : registrationInRange r ≡ true) where
-  pub segment-kept : segmentOf (registrationWord r) ≡ r .segment
+  pub registration-packed : RegistrationPacked r (registrationWord r)
   unfolding registrationWord
-  segment-kept = omega (arith, registration-bounds r ok)
-
-  pub direction-kept : directionOf (registrationWord r) ≡ r .direction
-  unfolding registrationWord
-  direction-kept = omega (arith, registration-bounds r ok)
-
-  pub status-kept : statusOf (registrationWord r) ≡ r .status
-  unfolding registrationWord
-  status-kept = omega (arith, registration-bounds r ok)
-
-  pub base-kept : baseOf (registrationWord r) ≡ r .base
-  unfolding registrationWord
-  base-kept = omega (arith, registration-bounds r ok)
-
-  pub flag-kept : flagOf (registrationWord r) ≡ r .flag
-  unfolding registrationWord
-  flag-kept = omega (arith, registration-bounds r ok)
-
-  pub additional-kept : additionalOf (registrationWord r) ≡ r .additional
-  unfolding registrationWord
-  additional-kept = omega (arith, registration-bounds r ok)
-
-  pub category-kept : categoryOf (registrationWord r) ≡ r .category
-  unfolding registrationWord
-  category-kept = omega (arith, registration-bounds r ok)
-
-  pub llf-kept : llfOf (registrationWord r) ≡ r .llf
-  unfolding registrationWord
-  llf-kept = omega (arith, registration-bounds r ok)
+  registration-packed = omega (arith, registration-bounds r ok)
 
   pub unit-kept : unitOf (registrationWord r) ≡ cond (eqb (r .flag) 1) (r .additional) (r .base)
   unfolding unitOf
-  unit-kept = rw (flag-kept, additional-kept, base-kept)
+  unit-kept = rw (registration-packed .flag, registration-packed .additional, registration-packed .base)
 
   pub registration-round-trip : registrationOf (registrationWord r) ≡ r
   unfolding registrationOf
   registration-round-trip =
       λ i.
       record {
-        segment = segment-kept i;
-        direction = direction-kept i;
-        status = status-kept i;
-        base = base-kept i;
-        flag = flag-kept i;
-        additional = additional-kept i;
-        category = category-kept i;
-        llf = llf-kept i;
+        segment = registration-packed .segment i;
+        direction = registration-packed .direction i;
+        status = registration-packed .status i;
+        base = registration-packed .base i;
+        flag = registration-packed .flag i;
+        additional = registration-packed .additional i;
+        category = registration-packed .category i;
+        llf = registration-packed .llf i;
       }
 
   pub registration-word-lt : registrationWord r < 2 ^ 33
   unfolding registrationWord
   registration-word-lt = omega (arith, registration-bounds r ok)
-
-  pub registration-word-fits : registrationWord r < 2 ^ 64
-  registration-word-fits = omega (arith, registration-word-lt)
 
   pub registration-word-well-formed : isRegistration (registrationWord r) ≡ true
   unfolding isRegistration

@@ -1,7 +1,7 @@
 -- Word 2: the reading that a meter holds, and the quality codes.
 use Prim.Native.Nat.{ℕ, _+_, _*_, _^_}
 use mathlib.Core.Bool.{Bool, not, _&&_, _||_}
-use lib.Dec.{leb, ltb, eqb}
+use lib.Dec.{leb, eqb}
 use Rattle.words.specs.declared.Reading.{Reading}
 use Rattle.words.specs.Limits.{consumptionMost, qualityMost, issueLeast, issueMost}
 use Rattle.words.specs.Registration.{bitField}

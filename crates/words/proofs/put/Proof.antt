@@ -1,5 +1,4 @@
 -- `words::put` meets its contract: nothing of x is shifted out, and w lies below the bits that x takes.
-use Prim.Native.Nat.{_*_, _+_, _^_}
 use native.Mathlib.Nat.{add-comm, mod-eq-of-lt}
 use borrow.Author.Needs.{needs}
 use lib.Bits.{or-shifted-r}

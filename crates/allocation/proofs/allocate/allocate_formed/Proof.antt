@@ -1,22 +1,19 @@
 -- `allocate_formed` leaves what the allocate call leaves on a well-formed book: one law for each way it ends, and the steps between them. Assumes nothing.
-use Prim.Native.Nat.{ℕ, _≤_, _<_}
+use Prim.Native.Nat.{ℕ, _≤_}
 use mathlib.Core.Path.{_≡_, refl, sym, _∙_, ap, ap₂, subst, subst₂}
-use mathlib.Core.Bool.{Bool, true, false}
-use mathlib.Core.List.{List, [], _∷_, _++_, map}
+use mathlib.Core.Bool.{true, false}
+use mathlib.Core.List.{List, _++_}
 use native.Mathlib.Omega.{arith}
 use borrow.Author.Needs.{needs}
 use borrow.Author.Tests.{not-true, not-false}
-use lib.IntN.{ℤ, pos, natAbs, _-ℤ_}
-use lib.ListN.{length, getD, take, drop, replicate}
+use lib.IntN.{ℤ, pos, _-ℤ_}
+use lib.ListN.{length, getD, take, drop}
 use lib.Seq.{length-take-le}
-use lib.Signed.{ltZ, _<ℤ_}
+use lib.Signed.{ltZ}
 use mir.Syntax.{w64}
 use mir.Val.{SFits, ofZ, toZ}
 use mir.ValLaws.{toZ-ofZ}
-use Rattle.book.specs.Rows.{rowsOf}
-use Rattle.book.specs.Book.{wellFormed}
-use Rattle.book.specs.Contracts.{lent}
-use Rattle.integers.specs.Sum.{sum}
+use Rattle.book.specs.declared.Settings.{Settings}
 use Rattle.allocation.specs.Cells.{countFrom}
 use Rattle.allocation.specs.declared.UnitSums.{UnitSums}
 use Rattle.allocation.specs.Correction.{units, unallocatedOf, weightedTotal}
@@ -24,9 +21,8 @@ use Rattle.allocation.specs.Energy.{anyLacksShape}
 use Rattle.allocation.specs.Allocate.{exceedsTolerance, figuresOf, withVolumes}
 use Rattle.allocation.specs.Volumes.{volumesFrom, volumesOf}
 use Rattle.allocation.specs.declared.Allocated.{Allocated}
-use Rattle.allocation.specs.Contracts.{tableOf, rawCell, AllUnits, ToleranceArguments, ApportionArguments}
-use Rattle.allocation.proofs.Steps
-use Rattle.allocation.proofs.Steps.{meters, sums, gather-arguments, all-units-arguments, nets-are, weighted-are, nets-arguments, weighted-arguments, take-fits, unallocated-fits, unallocated-is, weighted-is, positive, tolerance-arguments, apportion-arguments}
+use Rattle.allocation.specs.Contracts.{tableOf, ToleranceArguments, ApportionArguments}
+use Rattle.allocation.proofs.Steps.{metersIn, sumsIn, Worked, units-worked, gather-arguments, all-units-arguments, nets-long, weighted-long, nets-arguments, weighted-arguments, take-fits, unallocated-fits, unallocated-is, weighted-is, tolerance-arguments, apportion-arguments}
 use Rattle.allocation.proofs.Ways.{way-short, way-unset, way-lacks, way-below, way-exceeds, way-accepted}
 use Rattle.allocation.proofs.allocate.allocate_formed.Statement.{statement}
 use Rattle.allocation.proofs.allocate.allocate_formed.Tie as tie
@@ -40,9 +36,6 @@ long c = c .before .before .before .before .before .before .before .before .if1 
 
 take-set : (c : tie.After-gather) → start c .args .settings .«take_set» ≡ true
 take-set c = not-false _ (c .before .before .before .before .before .before .if2 .left)
-
-abbrev cells : tie.After-gather → List (List ℤ)
-cells c = c .gather .last .1 .1 .1 .0
 
 abbrev counts : tie.After-gather → List ℕ
 counts c = c .gather .last .1 .1 .1 .1 .0
@@ -65,7 +58,7 @@ gather-requires : tie.Need-gather-requires
 unfolding tableOf countFrom
 gather-requires c κs =
     let s = c .before .before .before .before .before .before .before .before .before in
-    gather-arguments (s .args .settings) _ (s .pre) _ _ (search needs) refl refl
+    gather-arguments _ _ (s .pre) (search needs) refl refl
 
 refused-requires-3 : tie.Need-refused-requires-3
 refused-requires-3 c κs = search needs
@@ -82,14 +75,20 @@ weights-long c = search needs
 all-units-requires : tie.Need-all-units-requires
 all-units-requires c κs =
     let g = c .before .before .before .before .before in
-    all-units-arguments (start g .args .settings) _ (start g .pre) (cells g) (replicate 32 (pos 0)) (replicate 32 (pos 0)) (weights-long (start g)) refl refl (g .gather .ensures .cells-are)
+    all-units-arguments _ _ (start g .pre) (weights-long (start g)) refl refl (g .gather .ensures .cells-are)
 
 -- where the units' sums have been worked
 abbrev gathered : tie.After-all-units → tie.After-gather
 gathered c = c .before .before .before .before .before .before
 
-abbrev first : tie.After-all-units → tie.Start
-first c = start (gathered c)
+abbrev settings : tie.After-all-units → Settings
+settings c = start (gathered c) .args .settings
+
+abbrev rows : tie.After-all-units → List ℕ
+rows c = start (gathered c) .args .rows .now
+
+abbrev slice : tie.After-all-units → List ℤ
+slice c = start (gathered c) .args .volumes .now
 
 abbrev nets : tie.After-all-units → List ℤ
 nets c = c .all-units .last .1 .1 .0
@@ -97,69 +96,70 @@ nets c = c .all-units .last .1 .1 .0
 abbrev weighted : tie.After-all-units → List ℤ
 weighted c = c .all-units .last .1 .1 .1 .0
 
-abbrev worked : tie.After-all-units → List UnitSums
-worked c = sums (first c .args .settings) (first c .args .rows .now) (first c .pre)
+-- n and a of the units, U and W
+abbrev sums : tie.After-all-units → List UnitSums
+sums c = sumsIn (settings c) (rows c)
 
-table-is : (c : tie.After-all-units) → cells (gathered c) ≡ tableOf (rawCell (first c .args .settings .shapes) (rowsOf (first c .args .settings .meters) (first c .args .rows .now)))
-table-is c = gathered c .gather .ensures .cells-are
+abbrev unallocated : tie.After-all-units → ℤ
+unallocated c = unallocatedOf (settings c .«take_wh») (sums c)
 
-given : (c : tie.After-all-units) → AllUnits (cells (gathered c)) (first c .args .settings .weights) (nets c) (weighted c)
-given c = c .all-units .ensures
+abbrev weighted-sum : tie.After-all-units → ℤ
+weighted-sum c = weightedTotal (sums c)
 
-shaped : (c : tie.After-all-units) → anyLacksShape (first c .args .settings .shapes) (rowsOf (first c .args .settings .meters) (first c .args .rows .now)) ≡ false
+worked : (c : tie.After-all-units) → Worked (settings c) (rows c) (nets c) (weighted c)
+worked c = units-worked _ _ (start (gathered c) .pre) (gathered c .gather .ensures .cells-are) (c .all-units .ensures)
+
+shaped : (c : tie.After-all-units) → anyLacksShape (settings c .shapes) (metersIn (settings c) (rows c)) ≡ false
 shaped c = sym (gathered c .gather .ensures .lacks-is) ∙ c .before .before .before .before .before .if3 .left
 
-nets-long : (c : tie.After-all-units) → length (nets c) ≡ 32
-nets-long c = Steps.nets-long (first c .args .settings) (first c .args .rows .now) (first c .pre) (cells (gathered c)) (nets c) (weighted c) (table-is c) (given c)
-
-weighted-long : (c : tie.After-all-units) → length (weighted c) ≡ 32
-weighted-long c = Steps.weighted-long (first c .args .settings) (first c .args .rows .now) (first c .pre) (cells (gathered c)) (nets c) (weighted c) (table-is c) (given c)
+-- the Take is read back from its bits as the same number
+take-read : (c : tie.After-all-units) → toZ w64 (ofZ w64 (settings c .«take_wh»)) ≡ settings c .«take_wh»
+take-read c = toZ-ofZ w64 (settings c .«take_wh») (take-fits _ _ (worked c .formed))
 
 slice-aggregate-total : tie.Need-slice-aggregate-total
-slice-aggregate-total c = search (needs, nets-long (c .before))
+slice-aggregate-total c = search (needs, nets-long (worked (c .before)))
 
 total-requires : tie.Need-total-requires
-total-requires c κs =
-    let a = c .before in
-    nets-arguments (first a .args .settings) (first a .args .rows .now) (first a .pre) (cells (gathered a)) (nets a) (weighted a) (table-is a) (given a)
+total-requires c κs = nets-arguments (worked (c .before))
 
 -- U, as the code subtracts
-difference : (c : tie.After-total) → toZ w64 (ofZ w64 (first (c .before .before) .args .settings .«take_wh»)) -ℤ toZ w64 (ofZ w64 (c .total .result)) ≡ unallocatedOf (first (c .before .before) .args .settings .«take_wh») (worked (c .before .before))
+abbrev subtracted : tie.After-total → ℤ
+subtracted c = toZ w64 (ofZ w64 (settings (c .before .before) .«take_wh»)) -ℤ toZ w64 (ofZ w64 (c .total .result))
+
+difference : (c : tie.After-total) → subtracted c ≡ unallocated (c .before .before)
 difference c =
     let a = c .before .before in
-    ap₂ _-ℤ_
-    (toZ-ofZ w64 (first a .args .settings .«take_wh») (take-fits (first a .args .settings) (first a .args .rows .now) (first a .pre)))
-    (toZ-ofZ w64 (c .total .result) (record { sfits = c .total .ok }) ∙ c .total .ensures)
-    ∙ unallocated-is (first a .args .settings) (first a .args .rows .now) (first a .pre) (cells (gathered a)) (nets a) (weighted a) (table-is a) (given a)
+    ap₂ _-ℤ_ (take-read a) (toZ-ofZ w64 (c .total .result) (record { sfits = c .total .ok }) ∙ c .total .ensures)
+    ∙ unallocated-is (worked a)
 
-difference-fits : (c : tie.After-total) → SFits w64 (toZ w64 (ofZ w64 (first (c .before .before) .args .settings .«take_wh»)) -ℤ toZ w64 (ofZ w64 (c .total .result)))
-difference-fits c =
-    let a = c .before .before in
-    subst (SFits w64) (sym (difference c)) (unallocated-fits (first a .args .settings) (first a .args .rows .now) (first a .pre))
+difference-fits : (c : tie.After-total) → SFits w64 (subtracted c)
+difference-fits c = subst (SFits w64) (sym (difference c)) (unallocated-fits _ _ (worked (c .before .before) .formed))
 
 sub-u : tie.Need-sub-u
 sub-u c = difference-fits (c .before .before)
 
 slice-aggregate-total-2 : tie.Need-slice-aggregate-total-2
-slice-aggregate-total-2 c = search (needs, weighted-long (c .before .before .before .before .before))
+slice-aggregate-total-2 c = search (needs, weighted-long (worked (c .before .before .before .before .before)))
 
 total-requires-2 : tie.Need-total-requires-2
-total-requires-2 c κs =
-    let a = c .before .before .before .before .before in
-    weighted-arguments (first a .args .settings) (first a .args .rows .now) (first a .pre) (cells (gathered a)) (nets a) (weighted a) (table-is a) (given a)
+total-requires-2 c κs = weighted-arguments (worked (c .before .before .before .before .before))
 
 -- where U and W are held
 abbrev summed : tie.After-total2 → tie.After-all-units
 summed c = c .before .before .before .before .before .before
 
-u-held : (c : tie.After-total2) → toZ w64 (ofZ w64 (toZ w64 (ofZ w64 (first (summed c) .args .settings .«take_wh»)) -ℤ toZ w64 (ofZ w64 (c .before .before .before .before .total .result)))) ≡ unallocatedOf (first (summed c) .args .settings .«take_wh») (worked (summed c))
+abbrev u-bits : tie.After-total2 → ℕ
+u-bits c = ofZ w64 (subtracted (c .before .before .before .before))
+
+abbrev w-bits : tie.After-total2 → ℕ
+w-bits c = ofZ w64 (c .total2 .result)
+
+u-held : (c : tie.After-total2) → toZ w64 (u-bits c) ≡ unallocated (summed c)
 u-held c = toZ-ofZ w64 _ (difference-fits (c .before .before .before .before)) ∙ difference (c .before .before .before .before)
 
-w-held : (c : tie.After-total2) → toZ w64 (ofZ w64 (c .total2 .result)) ≡ weightedTotal (worked (summed c))
+w-held : (c : tie.After-total2) → toZ w64 (w-bits c) ≡ weighted-sum (summed c)
 w-held c =
-    let a = summed c in
-    toZ-ofZ w64 (c .total2 .result) (record { sfits = c .total2 .ok }) ∙ c .total2 .ensures
-    ∙ weighted-is (first a .args .settings) (first a .args .rows .now) (first a .pre) (cells (gathered a)) (nets a) (weighted a) (table-is a) (given a)
+    toZ-ofZ w64 (c .total2 .result) (record { sfits = c .total2 .ok }) ∙ c .total2 .ensures ∙ weighted-is (worked (summed c))
 
 refused-requires-4 : tie.Need-refused-requires-4
 refused-requires-4 c κs = search needs
@@ -169,24 +169,22 @@ returns-4 c =
     let t = c .before .before in
     let a = summed t in
     rw (c .refused4 .ensures)
-    (way-below _ _ (first a .pre) _ (long (gathered a)) (take-set (gathered a)) (shaped a)
+    (way-below _ _ (worked a .formed) _ (long (gathered a)) (take-set (gathered a)) (shaped a)
     (subst (λ (z : ℤ). ltZ z (pos 1) ≡ true) (w-held t) (c .before .if4 .taken)))
 
-above : (c : tie.Else4) → ltZ (weightedTotal (worked (summed (c .before)))) (pos 1) ≡ false
+above : (c : tie.Else4) → ltZ (weighted-sum (summed (c .before))) (pos 1) ≡ false
 above c = subst (λ (z : ℤ). ltZ z (pos 1) ≡ false) (w-held (c .before)) (c .if4 .left)
 
 exceeds-tolerance-requires : tie.Need-exceeds-tolerance-requires
 exceeds-tolerance-requires c κs =
     let t = c .before in
-    let a = summed t in
-    subst₂ (λ (x y : ℤ). ToleranceArguments (first a .args .settings .tolerance) x y) (sym (u-held t)) (sym (w-held t))
-    (tolerance-arguments (first a .args .settings) (first a .args .rows .now) (first a .pre))
+    subst₂ (λ (x y : ℤ). ToleranceArguments (settings (summed t) .tolerance) x y) (sym (u-held t)) (sym (w-held t)) (tolerance-arguments _ _ (worked (summed t) .formed))
 
 -- what the tolerance test gave
-tested : (c : tie.After-exceeds-tolerance) → c .exceeds-tolerance .result ≡ exceedsTolerance (first (summed (c .before .before)) .args .settings .tolerance) (unallocatedOf (first (summed (c .before .before)) .args .settings .«take_wh») (worked (summed (c .before .before)))) (weightedTotal (worked (summed (c .before .before))))
+tested : (c : tie.After-exceeds-tolerance) → let a = summed (c .before .before) in c .exceeds-tolerance .result ≡ exceedsTolerance (settings a .tolerance) (unallocated a) (weighted-sum a)
 tested c =
     let t = c .before .before in
-    c .exceeds-tolerance .ensures ∙ ap₂ (exceedsTolerance (first (summed t) .args .settings .tolerance)) (u-held t) (w-held t)
+    c .exceeds-tolerance .ensures ∙ ap₂ (exceedsTolerance (settings (summed t) .tolerance)) (u-held t) (w-held t)
 
 refused-requires-5 : tie.Need-refused-requires-5
 refused-requires-5 c κs = search needs
@@ -196,7 +194,7 @@ returns-5 c =
     let x = c .before .before in
     let a = summed (x .before .before) in
     rw (c .refused5 .ensures)
-    (way-exceeds _ _ (first a .pre) _ (long (gathered a)) (take-set (gathered a)) (shaped a) (above (x .before)) (sym (tested x) ∙ c .before .if5 .taken))
+    (way-exceeds _ _ (worked a .formed) _ (long (gathered a)) (take-set (gathered a)) (shaped a) (above (x .before)) (sym (tested x) ∙ c .before .if5 .taken))
 
 sub-apportion : tie.Need-sub-apportion
 sub-apportion c = search needs
@@ -211,20 +209,17 @@ part-apportion-end c = omega (arith, long (gathered (summed (c .before .before .
 abbrev kept : tie.Else5 → tie.After-total2
 kept c = c .before .before .before
 
-within : (c : tie.Else5) → exceedsTolerance (first (summed (kept c)) .args .settings .tolerance) (unallocatedOf (first (summed (kept c)) .args .settings .«take_wh») (worked (summed (kept c)))) (weightedTotal (worked (summed (kept c)))) ≡ false
+within : (c : tie.Else5) → let a = summed (kept c) in exceedsTolerance (settings a .tolerance) (unallocated a) (weighted-sum a) ≡ false
 within c = sym (tested (c .before)) ∙ c .if5 .left
 
 apportion-requires : tie.Need-apportion-requires
 apportion-requires c κs =
     let k = c .before .before .before .before in
-    let a = summed (kept k) in
-    subst (λ (z : ℤ). ApportionArguments z (toZ w64 (ofZ w64 (toZ w64 (ofZ w64 (first a .args .settings .«take_wh»)) -ℤ toZ w64 (ofZ w64 (kept k .before .before .before .before .total .result))))) (toZ w64 (ofZ w64 (kept k .total2 .result))) (nets a) (weighted a) (take 32 (first a .args .volumes .now)))
-    (sym (toZ-ofZ w64 (first a .args .settings .«take_wh») (take-fits (first a .args .settings) (first a .args .rows .now) (first a .pre))))
-    (subst₂ (λ (x y : ℤ). ApportionArguments (first a .args .settings .«take_wh») x y (nets a) (weighted a) (take 32 (first a .args .volumes .now)))
-    (sym (u-held (kept k))) (sym (w-held (kept k)))
-    (apportion-arguments (first a .args .settings) (first a .args .rows .now) (first a .pre) (cells (gathered a)) (nets a) (weighted a) (take 32 (first a .args .volumes .now)) (table-is a) (given a)
-    (positive (first a .args .settings) (first a .args .rows .now) (first a .pre) (above (k .before .before))) (within k)
-    (length-take-le 32 (first a .args .volumes .now) (long (gathered a)))))
+    let t = kept k in
+    let a = summed t in
+    subst (λ (z : ℤ). ApportionArguments z (toZ w64 (u-bits t)) (toZ w64 (w-bits t)) (nets a) (weighted a) (take 32 (slice a))) (sym (take-read a))
+    (subst₂ (λ (x y : ℤ). ApportionArguments (settings a .«take_wh») x y (nets a) (weighted a) (take 32 (slice a))) (sym (u-held t)) (sym (w-held t))
+    (apportion-arguments (worked a) (above (k .before .before)) (within k) (length-take-le 32 (slice a) (long (gathered a)))))
 
 array-read-t37 : tie.Need-array-read-t37
 array-read-t37 c = search needs
@@ -254,27 +249,24 @@ answerFrom u w counts =
       idle = getD counts 3 0;
     }
 
-volumes-made : (c : tie.After-apportion) → c .apportion .last .1 .1 .1 .1 .1 .0 ≡ volumesOf (first (summed (kept (c .before .before .before .before .before))) .args .settings .«take_wh») (worked (summed (kept (c .before .before .before .before .before))))
+volumes-made : (c : tie.After-apportion) → let a = summed (kept (c .before .before .before .before .before)) in c .apportion .last .1 .1 .1 .1 .1 .0 ≡ volumesOf (settings a .«take_wh») (sums a)
 unfolding volumesOf
 volumes-made c =
     let t = kept (c .before .before .before .before .before) in
     let a = summed t in
-    c .apportion .ensures .volumes-are (worked a)
-    (nets-are (first a .args .settings) (first a .args .rows .now) (first a .pre) (cells (gathered a)) (nets a) (weighted a) (table-is a) (given a))
-    (weighted-are (first a .args .settings) (first a .args .rows .now) (first a .pre) (cells (gathered a)) (nets a) (weighted a) (table-is a) (given a))
-    ∙ ap₂ (λ (x y : ℤ). volumesFrom (toZ w64 (ofZ w64 (first a .args .settings .«take_wh»))) x y (worked a)) (u-held t) (w-held t)
-    ∙ ap (λ (z : ℤ). volumesFrom z (unallocatedOf (first a .args .settings .«take_wh») (worked a)) (weightedTotal (worked a)) (worked a))
-    (toZ-ofZ w64 (first a .args .settings .«take_wh») (take-fits (first a .args .settings) (first a .args .rows .now) (first a .pre)))
+    c .apportion .ensures .volumes-are (sums a) (worked a .nets-are) (worked a .weighted-are)
+    ∙ ap₂ (λ (x y : ℤ). volumesFrom (toZ w64 (ofZ w64 (settings a .«take_wh»))) x y (sums a)) (u-held t) (w-held t)
+    ∙ ap (λ (z : ℤ). volumesFrom z (unallocated a) (weighted-sum a) (sums a)) (take-read a)
 
 returns-6 : tie.Need-returns-6
 unfolding figuresOf withVolumes
 returns-6 c =
     let k = c .before .before .before .before .before .before in
     let a = summed (kept k) in
-    way-accepted _ _ (first a .pre) _ (long (gathered a)) (take-set (gathered a)) (shaped a) (above (k .before .before)) _ _ (within k)
+    way-accepted _ _ (worked a .formed) _ (long (gathered a)) (take-set (gathered a)) (shaped a) (above (k .before .before)) (within k)
     (ap₂ (λ (x y : ℤ). answerFrom x y (counts (gathered a))) (u-held (kept k)) (w-held (kept k))
-    ∙ ap (answerFrom (unallocatedOf (first a .args .settings .«take_wh») (worked a)) (weightedTotal (worked a))) (gathered a .gather .ensures .counts-are))
-    (ap (λ (v : List ℤ). v ++ drop 32 (first a .args .volumes .now)) (volumes-made (c .before)))
+    ∙ ap (answerFrom (unallocated a) (weighted-sum a)) (gathered a .gather .ensures .counts-are))
+    (ap (λ (v : List ℤ). v ++ drop 32 (slice a)) (volumes-made (c .before)))
 
 pub allocate-formed-spec : {M : Type 1} → statement M
 allocate-formed-spec =

@@ -11,9 +11,9 @@ use lib.Signed.{nonNeg}
 use mir.Syntax.{w64}
 use mir.Val.{Fits, SFits, ofZ, toZ}
 use mir.ValLaws.{toZ-ofZ}
-use Rattle.allocation.specs.Volumes.{roundedVolumes}
+use Rattle.allocation.specs.Volumes.{lackingWh, roundedVolumes}
 use Rattle.allocation.specs.Contracts.{ShareDownArguments, SharedDown, HandOutArguments}
-use Rattle.allocation.proofs.Apportion.{share-arguments, total-arguments, lack, lack-is, lack-few, hand-arguments, volumes-given}
+use Rattle.allocation.proofs.Apportion.{share-arguments, total-arguments, lack-is, lack-few, hand-arguments, volumes-given}
 use Rattle.allocation.proofs.allocate.apportion.Statement.{statement}
 use Rattle.allocation.proofs.allocate.apportion.Tie as tie
 
@@ -43,21 +43,21 @@ share-down-requires c κs =
     let s = c .before .before in
     subst₂ (λ (x y : ℤ). ShareDownArguments x y (s .args .nets .now) (s .args .weighted .now) (s .args .volumes .now) (replicate 32 0))
     (sym (same-u s)) (sym (same-w s))
-    (share-arguments (s .args .take-wh) (s .args .u) (s .args .w) (s .args .nets .now) (s .args .weighted .now) (s .args .volumes .now) (s .pre) (replicate 32 0) refl)
+    (share-arguments (s .pre) refl)
 
 module _ (c : tie.After-share-down) where
   -- the Wh that lack
   abbrev lacking : ℕ
-  lacking = lack (start c .args .take-wh) (start c .args .u) (start c .args .w) (start c .args .nets .now) (start c .args .weighted .now) (start c .args .volumes .now) (start c .pre) (floors c) (fractions c) (shared c)
+  lacking = lackingWh (start c .args .take-wh) (floors c)
 
   few : lacking ≤ 31
-  few = lack-few (start c .args .take-wh) (start c .args .u) (start c .args .w) (start c .args .nets .now) (start c .args .weighted .now) (start c .args .volumes .now) (start c .pre) (floors c) (fractions c) (shared c)
+  few = lack-few (start c .pre) (shared c)
 
 total-requires : tie.Need-total-requires
 total-requires c κs =
     let d = c .before .before in
     let s = start d in
-    total-arguments (s .args .take-wh) (s .args .u) (s .args .w) (s .args .nets .now) (s .args .weighted .now) (s .args .volumes .now) (s .pre) (floors d) (fractions d) (shared d)
+    total-arguments (s .pre) (shared d)
 
 -- the Take less the shares rounded down, as the code subtracts
 difference : (c : tie.After-total) → toZ w64 (ofZ w64 (start (c .before .before .before) .args .take-wh)) -ℤ toZ w64 (ofZ w64 (c .total .result)) ≡ pos (lacking (c .before .before .before))
@@ -65,7 +65,7 @@ difference c =
     let d = c .before .before .before in
     let s = start d in
     ap₂ _-ℤ_ (toZ-ofZ w64 (s .args .take-wh) (s .fits .take-wh)) (toZ-ofZ w64 (c .total .result) (record { sfits = c .total .ok }) ∙ c .total .ensures)
-    ∙ lack-is (s .args .take-wh) (s .args .u) (s .args .w) (s .args .nets .now) (s .args .weighted .now) (s .args .volumes .now) (s .pre) (floors d) (fractions d) (shared d)
+    ∙ lack-is (s .pre) (shared d)
 
 difference-fits : (c : tie.After-total) → SFits w64 (toZ w64 (ofZ w64 (start (c .before .before .before) .args .take-wh)) -ℤ toZ w64 (ofZ w64 (c .total .result)))
 difference-fits c =
@@ -89,7 +89,7 @@ hand-out-requires c κs =
     let d = t .before .before .before in
     let s = start d in
     subst (λ (n : ℕ). HandOutArguments (floors d) (fractions d) n) (sym (ap natAbs (held t)))
-    (hand-arguments (s .args .take-wh) (s .args .u) (s .args .w) (s .args .nets .now) (s .args .weighted .now) (s .args .volumes .now) (s .pre) (floors d) (fractions d) (shared d))
+    (hand-arguments (s .pre) (shared d))
 
 same-length : tie.Need-same-length
 same-length c = search needs
@@ -103,7 +103,7 @@ returns c =
       volumes-are = λ sums n a.
           c .before .hand-out .ensures
           ∙ ap (λ (k : ℕ). roundedVolumes k (fractions d) 0 (floors d) (fractions d)) (ap natAbs (held t))
-          ∙ volumes-given (s .args .take-wh) (s .args .u) (s .args .w) (s .args .nets .now) (s .args .weighted .now) (s .args .volumes .now) (s .pre) (floors d) (fractions d) (shared d) sums n a;
+          ∙ volumes-given (s .pre) (shared d) sums n a;
     }
 
 pub apportion-spec : {M : Type 1} → statement M

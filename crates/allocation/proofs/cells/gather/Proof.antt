@@ -9,19 +9,20 @@ use Rattle.integers.specs.Sum.{sum}
 use lib.IntN.{ℤ, pos, natAbs, _-ℤ_, _*ℤ_}
 use lib.ListN.{getD, set}
 use Rattle.words.specs.Registration.{llfOf, unitOf}
-use Rattle.words.proofs.RegistrationWord.{well-formed-bounds, unit-bound}
+use Rattle.words.proofs.RegistrationWord.{unit-bound}
 use Rattle.book.specs.Limits.{classes}
-use Rattle.book.specs.Rows.{Row, rowsOf, rowsFormed}
+use Rattle.book.specs.Rows.{Row, rowsOf}
 use Rattle.book.specs.Contracts.{row}
 use Rattle.book.proofs.RowsOf.{rowAt, length-rows, take-rows, row-of}
-use Rattle.book.proofs.Rising.{Words}
 use Rattle.allocation.specs.declared.Use.{Use}
 use Rattle.allocation.specs.Energy.{Source, actualReading, estimatedReading, shapeDefault, noEnergy, sourceOf, energyFrom, energyWh, lacksShapeFrom, anyLacksShape, countsOf}
 use Rattle.allocation.specs.Cells.{consumptionClass, isLossClass, consumptionCell, lossCell}
 use Rattle.allocation.specs.Correction.{units}
 use Rattle.allocation.specs.Contracts.{sourceNumber, useOf, added, emptyCell, rawCell, AddArguments, GatherArguments, Gathered}
 use Rattle.allocation.proofs.Tables.{entryOf, TableSized, table-entry, table-sized, tables-agree}
-use Rattle.allocation.proofs.MeterBounds.{formed-row, formed-take, energy-bound, class-bound, raw-cell-bound}
+use Rattle.allocation.proofs.Each.{Each, each-at, each-take}
+use Rattle.allocation.proofs.RowBounds.{RowBounds, rows-bounds}
+use Rattle.allocation.proofs.CellBounds.{raw-cell-most}
 use Rattle.allocation.proofs.OneMore.{rows-more, table-more, lacks-more, counts-stored, number-bound, count-bound}
 use Rattle.allocation.proofs.cells.gather.Statement.{statement}
 use Rattle.allocation.proofs.cells.gather.Tie as tie
@@ -64,11 +65,14 @@ module _ (words : List ℕ) (n : ℕ) (shapes : List ℕ) {start : List (List �
   abbrev meter : Row
   meter = row 0 (this .registration) (this .reading)
 
-  this-words : Words this
-  this-words = rw (row-of n i words this h) at (formed-row 0 (rowsOf n words) i this (ok .rows-formed) (rw length-rows h))
+  all-bounds : Each (RowBounds shapes) (rowsOf n words)
+  all-bounds = rows-bounds shapes (ok .shapes-formed) 0 (rowsOf n words) (ok .rows-formed)
 
-  before-formed : rowsFormed 0 (rowsOf i words) ≡ true
-  before-formed = rw (take-rows i n words (omega arith)) at (formed-take i 0 (rowsOf n words) (ok .rows-formed))
+  this-bounds : RowBounds shapes this
+  this-bounds = rw (row-of n i words this h) at (each-at all-bounds i this (rw length-rows h))
+
+  before-bounds : Each (RowBounds shapes) (rowsOf i words)
+  before-bounds = rw (take-rows i n words (omega arith)) at (each-take all-bounds i)
 
   same-use : useOf shapes meter ≡ useOf shapes this
   unfolding sourceOf energyWh
@@ -87,7 +91,7 @@ module _ (words : List ℕ) (n : ℕ) (shapes : List ℕ) {start : List (List �
   cell-bound : (unit class : ℕ) → unit < units → class < classes → natAbs (entryOf cells unit class) ≤ 655360000000000
   cell-bound unit class u k =
       rw (got .cells-are, table-entry (rawCell shapes (rowsOf i words)) unit class u k)
-      (omega (arith, length-rows i words, raw-cell-bound shapes (ok .shapes-formed) 0 (rowsOf i words) before-formed unit class))
+      (omega (arith, length-rows i words, raw-cell-most shapes unit class before-bounds))
 
   cells-sized : TableSized cells
   cells-sized = rw (got .cells-are) (table-sized (rawCell shapes (rowsOf i words)))
@@ -97,11 +101,11 @@ module _ (words : List ℕ) (n : ℕ) (shapes : List ℕ) {start : List (List �
       let u : unit < units = omega (arith, unit-bound (this .registration)) in
       record {
         unit-bound = u;
-        class-bound = omega (arith, same-class, class-bound this (this-words .registration-formed));
+        class-bound = omega (arith, same-class, this-bounds .class);
         rows-long = cells-sized .rows-long;
         row-long = cells-sized .row-long unit u;
-        wh-bound = rw (b ∙ same-use) (energy-bound shapes (ok .shapes-formed) this this-words);
-        llf-bound = omega (arith, well-formed-bounds (this .registration) (this-words .registration-formed));
+        wh-bound = rw (b ∙ same-use) (this-bounds .energy);
+        llf-bound = omega (arith, this-bounds .llf);
         cells-bound = λ k l. cell-bound unit k u l;
       }
 
@@ -116,7 +120,7 @@ module _ (words : List ℕ) (n : ℕ) (shapes : List ℕ) {start : List (List �
   turn-gives {unit} {class} {llf} {used} {after} a b d e stored =
       rw (rows-more i words)
       (record {
-        cells-are = stored ∙ rw (a, b ∙ same-use, d ∙ same-class, e, got .cells-are) (table-more shapes (rowsOf i words) this (omega (arith, class-bound this (this-words .registration-formed))));
+        cells-are = stored ∙ rw (a, b ∙ same-use, d ∙ same-class, e, got .cells-are) (table-more shapes (rowsOf i words) this (omega (arith, this-bounds .class)));
         counts-are = rw (b ∙ same-use, got .counts-are) (sym (counts-stored (rowsOf i words) this));
         lacks-is = rw (b ∙ same-use, got .lacks-is) (sym (lacks-more shapes (rowsOf i words) this));
       })

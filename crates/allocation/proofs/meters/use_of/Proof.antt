@@ -15,7 +15,7 @@ use Rattle.book.specs.Contracts.{row}
 use Rattle.allocation.specs.declared.Use.{Use}
 use Rattle.allocation.specs.Energy.{Source, actualReading, estimatedReading, shapeDefault, noEnergy, shapeOf, shapeWh, energyFrom, energyWh, lacksShapeFrom}
 use Rattle.allocation.specs.Contracts.{sourceNumber}
-use Rattle.allocation.proofs.Tables.{entry-either}
+use Rattle.allocation.proofs.Entries.{entry-either}
 use Rattle.allocation.proofs.meters.use_of.Statement.{statement}
 use Rattle.allocation.proofs.meters.use_of.Tie as tie
 

@@ -12,19 +12,15 @@ use Rattle.integers.specs.Quotient.{floorOf, fractionOf, quotientOf}
 use Rattle.integers.specs.Share.{ShareArguments}
 use Rattle.integers.proofs.Fit.{Held, fit, held, plus-fits, plus-held}
 use Rattle.integers.proofs.Size.{size-positive}
-use Rattle.integers.proofs.Sum.{entry-map}
 use Rattle.allocation.specs.declared.UnitSums.{UnitSums}
 use Rattle.allocation.specs.Correction.{units, netIn, weightedIn, shareFloor, shareFraction}
 use Rattle.allocation.specs.Contracts.{ShareDownArguments, SharedDown}
-use Rattle.allocation.proofs.Apportioned.{share-split, fraction-split}
+use Rattle.allocation.proofs.Entries.{entry-map}
+use Rattle.allocation.proofs.Apportioned.{noSums, share-split, fraction-split}
 use Rattle.allocation.proofs.Filled.{Filled, filled-none, filled-next, filled-all}
 use Rattle.allocation.proofs.Quotients.{quotient-most}
 use Rattle.allocation.proofs.shares.share_down.Statement.{statement}
 use Rattle.allocation.proofs.shares.share_down.Tie as tie
-
--- what is read past the last unit
-abbrev none : UnitSums
-none = record { net = pos 0; weighted = pos 0 }
 
 -- the units whose n and a are given, of which the first i have their floors and fractions
 record Done (u w : ℤ) (nets weighted floors : List ℤ) (fractions : List ℕ) (i : ℕ) : Type 0 where
@@ -95,11 +91,11 @@ module _ {u w : ℤ} {nets weighted floors₀ : List ℤ} {fractions₀ : List �
       in-units : i < length sums
       in-units = omega (arith, units-long sums n)
 
-      floor-is : shareFloor u w (getD sums i none) ≡ net +ℤ correction
-      floor-is = rw (n, a, entry-map netIn sums i none (pos 0) in-units, entry-map weightedIn sums i none (pos 0) in-units) (share-split u w _ (args .w-positive))
+      floor-is : shareFloor u w (getD sums i noSums) ≡ net +ℤ correction
+      floor-is = rw (n, a, entry-map netIn sums i noSums (pos 0) in-units, entry-map weightedIn sums i noSums (pos 0) in-units) (share-split u w _ (args .w-positive))
 
-      fraction-is : shareFraction u w (getD sums i none) ≡ fractionOf product (natAbs w)
-      fraction-is = rw (a, entry-map weightedIn sums i none (pos 0) in-units) (fraction-split u w _ (args .w-positive))
+      fraction-is : shareFraction u w (getD sums i noSums) ≡ fractionOf product (natAbs w)
+      fraction-is = rw (a, entry-map weightedIn sums i noSums (pos 0) in-units) (fraction-split u w _ (args .w-positive))
 
     next-done : {floors : List ℤ} {fractions : List ℕ} → i < units → Done u w nets weighted floors fractions i
         → Done u w nets weighted (set floors i (net +ℤ correction)) (set fractions i (fractionOf product (natAbs w))) (i + 1)
@@ -107,8 +103,8 @@ module _ {u w : ℤ} {nets weighted floors₀ : List ℤ} {fractions₀ : List �
         record {
           floors-long = simp length-set (d .floors-long);
           fractions-long = simp length-set (d .fractions-long);
-          floors-done = λ sums n a. rw (← (floor-is sums n a h)) (filled-next _ sums _ i none (d .floors-done sums n a) (in-units sums n a h));
-          fractions-done = λ sums n a. rw (← (fraction-is sums n a h)) (filled-next _ sums _ i none (d .fractions-done sums n a) (in-units sums n a h));
+          floors-done = λ sums n a. rw (← (floor-is sums n a h)) (filled-next _ sums _ i noSums (d .floors-done sums n a) (in-units sums n a h));
+          fractions-done = λ sums n a. rw (← (fraction-is sums n a h)) (filled-next _ sums _ i noSums (d .fractions-done sums n a) (in-units sums n a h));
         }
 
 loop-holds : tie.Need-loop-holds Inv-loop μ-loop

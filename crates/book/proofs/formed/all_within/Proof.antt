@@ -1,13 +1,12 @@
 -- `all_within` is the test of every number of the slice: those from `i` on decide. Assumes nothing.
 use Prim.Native.Nat.{ℕ, _≤_, _-_}
 use mathlib.Core.Bool.{Bool, _||_}
-use mathlib.Core.List.{List}
 use lib.Dec.{leb, eqb}
-use mathlib.Core.Path.{_≡_, _∙_, sym, ap}
+use mathlib.Core.Path.{_≡_}
 use native.Mathlib.Omega.{arith}
 use borrow.Author.Needs.{needs}
 use borrow.Author.Tests.{not-true, not-false}
-use lib.ListN.{length, getD}
+use lib.ListN.{length}
 use Rattle.book.specs.Contracts.{within}
 use Rattle.book.proofs.AllOf.{Left, all-left, one-passes, one-fails, none-left}
 use Rattle.book.proofs.formed.all_within.Statement.{statement}

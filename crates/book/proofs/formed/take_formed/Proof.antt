@@ -1,5 +1,5 @@
 -- `take_formed` is the test of the Take and its flag. Where the flag is clear, the code compares bits with 0 and the definition the size. Assumes nothing.
-use Prim.Native.Nat.{ℕ, suc, _-_, _^_}
+use Prim.Native.Nat.{suc, _-_, _^_}
 use mathlib.Core.Path.{_≡_, refl, sym, _∙_, ap}
 use native.Mathlib.Omega.{arith}
 use borrow.Author.Needs.{needs}

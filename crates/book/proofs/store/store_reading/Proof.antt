@@ -1,17 +1,16 @@
 -- `store_reading` leaves what the reading call leaves on a well-formed book: one law for each way it ends. Assumes nothing.
-use Prim.Native.Nat.{ℕ, _+_, _*_, _≤_, _<_}
+use Prim.Native.Nat.{ℕ, _+_, _*_, _≤_}
 use mathlib.Core.Path.{_≡_, sym, _∙_, ap}
-use mathlib.Core.Bool.{true, false, and-eq-true-iff}
-use mathlib.Core.List.{List}
+use mathlib.Core.Bool.{true, and-eq-true-iff}
 use native.Mathlib.Omega.{arith}
 use borrow.Author.Needs.{needs}
 use borrow.Author.Tests.{not-true, not-false}
 use lib.ListN.{length, getD}
-use Rattle.words.specs.Reading.{readingInRange, qualityAllowed, readingWord, issueOf}
+use Rattle.words.specs.Reading.{qualityAllowed, issueOf}
 use Rattle.book.specs.declared.Place.{Place}
 use Rattle.book.specs.Rows.{rowsOf, isKnown}
 use Rattle.book.specs.Calls.{readingCallInRange}
-use Rattle.book.specs.Contracts.{placeOf, RowsReady}
+use Rattle.book.specs.Contracts.{placeOf}
 use Rattle.book.proofs.PlaceOf.{known-within-in}
 use Rattle.book.proofs.WellFormed.{room}
 use Rattle.book.proofs.ReadingCall.{keeps-out-of-range, keeps-refused-quality, keeps-unknown-meter, keeps-not-above, stores-above}
