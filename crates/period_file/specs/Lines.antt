@@ -1,0 +1,154 @@
+-- The lines of a period file, the order of their kinds, and the call of each.
+use Prim.Native.Nat.{ℕ}
+use mathlib.Core.Bool.{Bool, true, false, _&&_, _||_, cond}
+use mathlib.Core.List.{List, [], _∷_}
+use lib.Dec.{leb, ltb, eqb}
+use lib.ListN.{length, drop}
+use Rattle.book.specs.Book.{Book}
+use Rattle.book.specs.Causes.{accepted}
+use Rattle.book.specs.Calls.{shape, weight, tolerance, groupTake, Call, register, reading, setting, Outcome, callOutcome}
+use Rattle.period_file.specs.declared.Number.{Number}
+use Rattle.period_file.specs.declared.Signed.{Signed}
+use Rattle.period_file.specs.declared.Additional.{Additional}
+use Rattle.period_file.specs.declared.Line.{Line}
+use Rattle.period_file.specs.declared.Line.the-variants.{OutOfForm, Take, Tolerance, Weight, Shape, Meter, Reading}
+use Rattle.period_file.specs.Numbers.{signedOf, numberOf}
+use Rattle.period_file.specs.Fields.{startsWith, fieldCount, numberAt, additionalAt}
+
+-- a line that is in form if a test holds
+abbrev pub inForm : Bool → Line → Line
+inForm ok line = cond ok line OutOfForm
+
+-- "take", "tolerance": one number; "only take may have a minus"
+unfoldable pub takeLine : List ℕ → Line
+takeLine value = inForm (signedOf value .ok) (Take (signedOf value .value))
+
+unfoldable pub toleranceLine : List ℕ → Line
+toleranceLine value = inForm (numberOf value .ok) (Tolerance (numberOf value .value))
+
+-- "weight=class,thousandths"
+unfoldable pub weightLine : List ℕ → Line
+weightLine value =
+    inForm (eqb (fieldCount value) 2 && numberAt 0 value .ok && numberAt 1 value .ok)
+    (Weight (numberAt 0 value .value) (numberAt 1 value .value))
+
+-- "shape=category,Wh"
+unfoldable pub shapeLine : List ℕ → Line
+shapeLine value =
+    inForm (eqb (fieldCount value) 2 && numberAt 0 value .ok && numberAt 1 value .ok)
+    (Shape (numberAt 0 value .value) (numberAt 1 value .value))
+
+-- "meter=MPAN,segment,direction,status,base,additional or -,category,LLF"
+unfoldable pub meterLine : List ℕ → Line
+meterLine value =
+    inForm
+    (eqb (fieldCount value) 8
+    && numberAt 0 value .ok
+    && numberAt 1 value .ok
+    && numberAt 2 value .ok
+    && numberAt 3 value .ok
+    && numberAt 4 value .ok
+    && additionalAt 5 value .ok
+    && numberAt 6 value .ok
+    && numberAt 7 value .ok)
+    (Meter (numberAt 0 value .value)
+    (record {
+      segment = numberAt 1 value .value;
+      direction = numberAt 2 value .value;
+      status = numberAt 3 value .value;
+      base = numberAt 4 value .value;
+      flag = additionalAt 5 value .flag;
+      additional = additionalAt 5 value .unit;
+      category = numberAt 6 value .value;
+      llf = numberAt 7 value .value;
+    }))
+
+-- "reading=MPAN,issue,quality,Wh"
+unfoldable pub readingLine : List ℕ → Line
+readingLine value =
+    inForm
+    (eqb (fieldCount value) 4
+    && numberAt 0 value .ok
+    && numberAt 1 value .ok
+    && numberAt 2 value .ok
+    && numberAt 3 value .ok)
+    (Reading (numberAt 0 value .value)
+    (record {
+      issue = numberAt 1 value .value;
+      quality = numberAt 2 value .value;
+      consumption = numberAt 3 value .value;
+    }))
+
+-- "key=": the bytes of take=, tolerance=, weight=, shape=, meter= and reading=
+abbrev pub takeKey : List ℕ
+takeKey = 116 ∷ 97 ∷ 107 ∷ 101 ∷ 61 ∷ []
+
+abbrev pub toleranceKey : List ℕ
+toleranceKey = 116 ∷ 111 ∷ 108 ∷ 101 ∷ 114 ∷ 97 ∷ 110 ∷ 99 ∷ 101 ∷ 61 ∷ []
+
+abbrev pub weightKey : List ℕ
+weightKey = 119 ∷ 101 ∷ 105 ∷ 103 ∷ 104 ∷ 116 ∷ 61 ∷ []
+
+abbrev pub shapeKey : List ℕ
+shapeKey = 115 ∷ 104 ∷ 97 ∷ 112 ∷ 101 ∷ 61 ∷ []
+
+abbrev pub meterKey : List ℕ
+meterKey = 109 ∷ 101 ∷ 116 ∷ 101 ∷ 114 ∷ 61 ∷ []
+
+abbrev pub readingKey : List ℕ
+readingKey = 114 ∷ 101 ∷ 97 ∷ 100 ∷ 105 ∷ 110 ∷ 103 ∷ 61 ∷ []
+
+-- "key=value": the line of the key that the bytes start with; an empty line has none
+unfoldable pub keyedLine : List ℕ → Line
+keyedLine line =
+    cond (startsWith takeKey line) (takeLine (drop 5 line))
+    (cond (startsWith toleranceKey line) (toleranceLine (drop 10 line))
+    (cond (startsWith weightKey line) (weightLine (drop 7 line))
+    (cond (startsWith shapeKey line) (shapeLine (drop 6 line))
+    (cond (startsWith meterKey line) (meterLine (drop 6 line))
+    (cond (startsWith readingKey line) (readingLine (drop 8 line))
+    OutOfForm)))))
+
+-- "of at most 80 bytes before the line feed"
+abbrev pub lineMost : ℕ
+lineMost = 80
+
+-- a line by itself
+unfoldable pub lineOf : List ℕ → Line
+lineOf line = inForm (leb (length line) lineMost) (keyedLine line)
+
+-- "take, tolerance (each at most once), weight, shape, meter, reading, in that order of kinds"; 0 for no line
+abbrev pub kindOf : Line → ℕ
+kindOf OutOfForm = 0
+kindOf (Take wh) = 1
+kindOf (Tolerance g) = 2
+kindOf (Weight class thousandths) = 3
+kindOf (Shape category wh) = 4
+kindOf (Meter mpan r) = 5
+kindOf (Reading mpan r) = 6
+
+-- whether a kind may stand after the last one: a later kind, or the same again if it may stand more than once
+abbrev pub kindFollows : ℕ → ℕ → Bool
+kindFollows last kind = ltb last kind || (eqb last kind && ltb 2 kind)
+
+-- a line after lines of which the last had that kind
+unfoldable pub lineAfter : ℕ → List ℕ → Line
+lineAfter last line = inForm (kindFollows last (kindOf (lineOf line))) (lineOf line)
+
+-- "makes the call of each"; a line out of form makes none
+unfoldable pub callsOf : Line → List Call
+callsOf OutOfForm = []
+callsOf (Take wh) = setting (groupTake wh) ∷ []
+callsOf (Tolerance g) = setting (tolerance g) ∷ []
+callsOf (Weight class thousandths) = setting (weight class thousandths) ∷ []
+callsOf (Shape category wh) = setting (shape category wh) ∷ []
+callsOf (Meter mpan r) = register mpan r ∷ []
+callsOf (Reading mpan r) = reading mpan r ∷ []
+
+-- what the call of a line leaves
+unfoldable pub callsOutcome : Book → List Call → Outcome
+callsOutcome b [] = record { number = accepted; book = b }
+callsOutcome b (c ∷ calls) = callOutcome b c
+
+abbrev pub lineOutcome : Book → Line → Outcome
+lineOutcome b line = callsOutcome b (callsOf line)

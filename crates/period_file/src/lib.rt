@@ -1,0 +1,49 @@
+// The lines of a period file: whether a line is in form, which kind it is, and which call it makes.
+use words::Registration;
+
+pub mod calls;
+pub mod fields;
+pub mod lines;
+pub mod numbers;
+
+// A text that is a number in form, with its value; not ok, and 0, for any other text.
+pub struct Number {
+    pub ok: bool,
+    pub value: u64,
+}
+
+// The same for a number that may have a minus.
+pub struct Signed {
+    pub ok: bool,
+    pub value: i64,
+}
+
+// The additional unit of a meter, or that it has none (flag 0).
+pub struct Additional {
+    pub ok: bool,
+    pub flag: u64,
+    pub unit: u64,
+}
+
+// A line of a period file.
+pub enum Line {
+    OutOfForm,
+    Take(i64),
+    Tolerance(u64),
+    Weight {
+        class: u64,
+        thousandths: u64,
+    },
+    Shape {
+        category: u64,
+        wh: u64,
+    },
+    Meter {
+        mpan: u64,
+        registration: Registration,
+    },
+    Reading {
+        mpan: u64,
+        reading: words::Reading,
+    },
+}

@@ -1,0 +1,194 @@
+// The six kinds of line, and the order in which they may stand.
+use crate::Line;
+use crate::fields::additional_at;
+use crate::fields::field_count;
+use crate::fields::number_at;
+use crate::fields::starts_with;
+use crate::numbers::number;
+use crate::numbers::signed;
+use words::Registration;
+ghost use mathlib.Core.Path.{_≡_};
+ghost use Rattle.period_file.specs.Lines.{inForm, takeLine, toleranceLine, weightLine, shapeLine, meterLine, readingLine, keyedLine, lineOf, kindOf, kindFollows, lineAfter};
+
+// The bytes of a line, at most, without its line feed.
+pub const LINE_MAX: usize = 80;
+
+// The last kind that may stand only once.
+const TOLERANCE: u64 = 2;
+
+// A line if it is in form.
+fn in_form(ok: bool, line: Line) -> Line
+    ensures { λ r. ⌜ r ≡ inForm ok line ⌝ }
+{
+    if ok { line } else { Line::OutOfForm }
+}
+
+fn take_line(value: &[u8]) -> Line
+    ensures { λ r. ⌜ r ≡ takeLine (now (value .entry)) ⌝ }
+{
+    let wh = signed(value);
+    in_form(wh.ok, Line::Take(wh.value))
+}
+
+fn tolerance_line(value: &[u8]) -> Line
+    ensures { λ r. ⌜ r ≡ toleranceLine (now (value .entry)) ⌝ }
+{
+    let g = number(value);
+    in_form(g.ok, Line::Tolerance(g.value))
+}
+
+fn weight_line(value: &[u8]) -> Line
+    ensures { λ r. ⌜ r ≡ weightLine (now (value .entry)) ⌝ }
+{
+    let class = number_at(value, 0);
+    let thousandths = number_at(value, 1);
+    in_form(
+        (field_count(value) == 2) & class.ok & thousandths.ok,
+        Line::Weight {
+            class: class.value,
+            thousandths: thousandths.value,
+        },
+    )
+}
+
+fn shape_line(value: &[u8]) -> Line
+    ensures { λ r. ⌜ r ≡ shapeLine (now (value .entry)) ⌝ }
+{
+    let category = number_at(value, 0);
+    let wh = number_at(value, 1);
+    in_form(
+        (field_count(value) == 2) & category.ok & wh.ok,
+        Line::Shape {
+            category: category.value,
+            wh: wh.value,
+        },
+    )
+}
+
+fn meter_line(value: &[u8]) -> Line
+    ensures { λ r. ⌜ r ≡ meterLine (now (value .entry)) ⌝ }
+{
+    let mpan = number_at(value, 0);
+    let segment = number_at(value, 1);
+    let direction = number_at(value, 2);
+    let status = number_at(value, 3);
+    let base = number_at(value, 4);
+    let additional = additional_at(value, 5);
+    let category = number_at(value, 6);
+    let llf = number_at(value, 7);
+    let registration = Registration {
+        segment: segment.value,
+        direction: direction.value,
+        status: status.value,
+        base: base.value,
+        flag: additional.flag,
+        additional: additional.unit,
+        category: category.value,
+        llf: llf.value,
+    };
+    let all = (field_count(value) == 8)
+        & mpan.ok
+        & segment.ok
+        & direction.ok
+        & status.ok
+        & base.ok
+        & additional.ok
+        & category.ok
+        & llf.ok;
+    in_form(
+        all,
+        Line::Meter {
+            mpan: mpan.value,
+            registration,
+        },
+    )
+}
+
+fn reading_line(value: &[u8]) -> Line
+    ensures { λ r. ⌜ r ≡ readingLine (now (value .entry)) ⌝ }
+{
+    let mpan = number_at(value, 0);
+    let issue = number_at(value, 1);
+    let quality = number_at(value, 2);
+    let consumption = number_at(value, 3);
+    let reading = words::Reading {
+        issue: issue.value,
+        quality: quality.value,
+        consumption: consumption.value,
+    };
+    let all = (field_count(value) == 4) & mpan.ok & issue.ok & quality.ok & consumption.ok;
+    in_form(
+        all,
+        Line::Reading {
+            mpan: mpan.value,
+            reading,
+        },
+    )
+}
+
+// The line of the key that the bytes start with.
+fn keyed_line(line: &[u8]) -> Line
+    ensures { λ r. ⌜ r ≡ keyedLine (now (line .entry)) ⌝ }
+{
+    if starts_with(line, b"take=") {
+        return take_line(&line[5..]);
+    }
+    if starts_with(line, b"tolerance=") {
+        return tolerance_line(&line[10..]);
+    }
+    if starts_with(line, b"weight=") {
+        return weight_line(&line[7..]);
+    }
+    if starts_with(line, b"shape=") {
+        return shape_line(&line[6..]);
+    }
+    if starts_with(line, b"meter=") {
+        return meter_line(&line[6..]);
+    }
+    if starts_with(line, b"reading=") {
+        return reading_line(&line[8..]);
+    }
+    Line::OutOfForm
+}
+
+// The place of a line's kind in the order, from 1; 0 for a line out of form.
+pub fn kind_of(line: Line) -> u64
+    ensures { λ r. ⌜ r ≡ kindOf line ⌝ }
+{
+    match line {
+        Line::OutOfForm => 0,
+        Line::Take(_) => 1,
+        Line::Tolerance(_) => 2,
+        Line::Weight {
+            class: _,
+            thousandths: _,
+        } => 3,
+        Line::Shape { category: _, wh: _ } => 4,
+        Line::Meter {
+            mpan: _,
+            registration: _,
+        } => 5,
+        Line::Reading {
+            mpan: _,
+            reading: _,
+        } => 6,
+    }
+}
+
+// Whether a kind may stand after the last one.
+fn follows(last: u64, kind: u64) -> bool
+    ensures { λ r. ⌜ r ≡ kindFollows last kind ⌝ }
+{
+    (last < kind) | ((last == kind) & (TOLERANCE < kind))
+}
+
+// The line that these bytes are, after lines of which the last had that kind; 0 before the first line.
+pub fn read_line(line: &[u8], last_kind: u64) -> Line
+    ensures { λ r. ⌜ r ≡ lineAfter «last_kind» (now (line .entry)) ⌝ }
+{
+    if LINE_MAX < line.len() {
+        return Line::OutOfForm;
+    }
+    let found = keyed_line(line);
+    in_form(follows(last_kind, kind_of(found)), found)
+}
