@@ -1,0 +1,130 @@
+//! Books at the limit of 65,536 meters, made as one list.
+
+use crate::call::Call;
+use crate::check::{check_allocation, check_call, check_lists, Case, Expected};
+use crate::compare::{at, Checked};
+use crate::lent::Lent;
+use crate::library::{Reading, Registration, CLASSES, ROW_WORDS};
+use crate::model::ranges::METERS_MOST;
+use crate::moved::check_moved;
+use crate::random::Random;
+use crate::reach::{Reach, Situation};
+
+/// How far from its place in order a meter may be registered. In any order at all, moving rows would take most of the time.
+const DISORDER: usize = 200;
+
+/// What all meters of a large book have in common.
+#[derive(Clone, Copy)]
+enum Load {
+    /// Every number as large as it can be, so that U × a passes 10^27.
+    Most,
+    Mixed,
+}
+
+fn registration(load: Load, random: &mut Random) -> Registration {
+    match load {
+        Load::Most => Registration {
+            segment: 1,
+            direction: 0,
+            status: 2,
+            // Few meters beside unit 7, whose product is the largest.
+            base: if random.percent(99) { 7 } else { random.below(32) },
+            flag: 0,
+            additional: 0,
+            category: random.below(64),
+            llf: 2_000,
+        },
+        Load::Mixed => Registration {
+            segment: random.below(3),
+            direction: random.below(2),
+            status: random.between(1, 2),
+            base: random.below(32),
+            flag: 0,
+            additional: 0,
+            category: random.below(64),
+            llf: random.between(500, 2_000),
+        },
+    }
+}
+
+fn reading(load: Load, random: &mut Random) -> Reading {
+    Reading {
+        issue: random.between(1, 4_294_967_295),
+        quality: random.below(14),
+        consumption: match load {
+            Load::Most => 10_000_000,
+            Load::Mixed => random.below(10_000_001),
+        },
+    }
+}
+
+/// Nearly in order of MPAN; each with a few different from the next, so that new ones fit between.
+fn mpans(count: usize, random: &mut Random) -> Vec<u64> {
+    let mut mpan = 1_000_000_000_000;
+    let mut mpans = Vec::with_capacity(count);
+    for _ in 0..count {
+        mpan += random.between(2, 100_000_000);
+        mpans.push(mpan);
+    }
+    for part in mpans.chunks_mut(DISORDER) {
+        random.shuffle(part);
+    }
+    mpans
+}
+
+/// One meter more than there is room for, all with readings, and a few late or repeated ones.
+fn large_case(row_words: usize, load: Load, random: &mut Random) -> Case {
+    let room = (row_words / ROW_WORDS).min(METERS_MOST);
+    let mpans = mpans(room + 1, random);
+    let mut calls: Vec<Call> = (0..CLASSES as u64)
+        .map(|class| Call::Weight {
+            class,
+            thousandths: match load {
+                Load::Most => 1_000,
+                Load::Mixed => random.between(1, 1_000),
+            },
+        })
+        .collect();
+    calls.extend((0..64).map(|category| Call::Shape { category, wh: 10_000_000 }));
+    calls.extend(mpans.iter().map(|&mpan| Call::Register { mpan, registration: registration(load, random) }));
+    for _ in 0..room + room / 8 {
+        calls.push(Call::Reading { mpan: *random.pick(&mpans), reading: reading(load, random) });
+    }
+    // With every weight at 1,000 the tolerance allows U from -n to n, so that any Take from 0 on is accepted.
+    calls.push(Call::Take { wh: random.between_signed(0, 5_000_000_000) });
+    Case { rows: random.words(row_words), calls, volumes: random.signed_words(33), seed: random.word() }
+}
+
+/// Two full books: one as large as a book can be, in a slice that has room for more, and one that is one meter smaller.
+pub fn check_large(random: &mut Random, reach: &mut Reach) -> Checked {
+    let most = ROW_WORDS * METERS_MOST;
+    let longer = most + 1 + random.index(9);
+    let full = check_one(&large_case(longer, Load::Most, random), random, reach);
+    at(|| format!("full book of {METERS_MOST} meters, {longer} row words"), full)?;
+    reach.note(Situation::CapacityMost);
+    let smaller = check_one(&large_case(most - 1, Load::Mixed, random), random, reach);
+    at(|| format!("full book of {} meters", METERS_MOST - 1), smaller)?;
+    reach.note(Situation::CapacityJustBelowMost);
+    Ok(())
+}
+
+fn check_one(case: &Case, random: &mut Random, reach: &mut Reach) -> Checked {
+    let expected = Expected::of(case);
+    assert!(expected.book.is_full(), "the list fills the book");
+    assert!(expected.numbers.contains(&6), "and has one meter more");
+    check_lists(case, &expected, reach)?;
+    check_moved(case, reach)?;
+    check_last_calls(case, &expected, random, reach)
+}
+
+/// The last calls again, one by one, on the full book, and an allocation.
+fn check_last_calls(case: &Case, expected: &Expected, random: &mut Random, reach: &mut Reach) -> Checked {
+    let mut book = expected.book.clone();
+    let mut lent = Lent::new(book.settings(), &book.words());
+    for _ in 0..20 {
+        let call = random.pick(&case.calls);
+        let number = book.make(call);
+        at(|| format!("{call}"), check_call(&mut lent, call, number, Some(&book)))?;
+    }
+    check_allocation(&mut lent, Some(&book), &case.volumes, reach)
+}

@@ -1,0 +1,297 @@
+//! How often each refusal, boundary, situation and damage was reached. One that was never reached fails the run.
+
+use std::fmt::Write;
+
+use crate::boundaries::{boundaries, Boundaries, BOUNDARIES};
+use crate::call::Call;
+use crate::damage::DamageKind;
+use crate::model::ranges::in_range;
+use crate::named::named;
+
+named! {
+    /// What gives a number: the entry points, and the calls inside a list.
+    Entry {
+        Register => "register",
+        Reading => "reading",
+        Shape => "shape",
+        Weight => "weight",
+        Tolerance => "tolerance",
+        Take => "take",
+        Allocate => "allocate",
+        MakeCalls => "make_calls",
+        SettleList => "settle_list",
+        ListedRegister => "in a list: register",
+        ListedReading => "in a list: reading",
+        ListedShape => "in a list: shape",
+        ListedWeight => "in a list: weight",
+        ListedTolerance => "in a list: tolerance",
+        ListedTake => "in a list: take",
+        ListedUnknown => "in a list: unknown kind",
+    }
+}
+
+impl Entry {
+    /// The entry point of a call; a kind that no call has, has none.
+    pub fn single(call: &Call) -> Option<Entry> {
+        match call {
+            Call::Register { .. } => Some(Entry::Register),
+            Call::Reading { .. } => Some(Entry::Reading),
+            Call::Shape { .. } => Some(Entry::Shape),
+            Call::Weight { .. } => Some(Entry::Weight),
+            Call::Tolerance { .. } => Some(Entry::Tolerance),
+            Call::Take { .. } => Some(Entry::Take),
+            Call::Unknown { .. } => None,
+        }
+    }
+
+    pub fn listed(call: &Call) -> Entry {
+        match call {
+            Call::Register { .. } => Entry::ListedRegister,
+            Call::Reading { .. } => Entry::ListedReading,
+            Call::Shape { .. } => Entry::ListedShape,
+            Call::Weight { .. } => Entry::ListedWeight,
+            Call::Tolerance { .. } => Entry::ListedTolerance,
+            Call::Take { .. } => Entry::ListedTake,
+            Call::Unknown { .. } => Entry::ListedUnknown,
+        }
+    }
+
+    /// The numbers that it can give. A list is refused only for its shape; settling starts from a fresh book, which is well formed.
+    fn reachable(self) -> &'static [u64] {
+        match self {
+            Entry::Register | Entry::ListedRegister => &[0, 1, 2, 6],
+            Entry::Reading | Entry::ListedReading => &[0, 1, 2, 3, 4, 5],
+            Entry::Allocate => &[0, 1, 7, 8, 9, 10, 11],
+            Entry::MakeCalls => &[0, 19],
+            Entry::SettleList => &[0, 7, 8, 9, 10, 11, 19],
+            Entry::ListedUnknown => &[1, 2],
+            _ => &[0, 1, 2],
+        }
+    }
+}
+
+named! {
+    /// What the random books must have met, apart from numbers and boundaries.
+    Situation {
+        IssueBelowHeld => "reading one issue below the one held",
+        IssueEqualHeld => "reading of the issue held, with other contents",
+        IssueAboveHeld => "reading one issue above the one held",
+        ZeroReadingHeld => "a reading of 0 Wh, code 0, is the one in force",
+        ZeWithoutEnergy => "ZE code with 0 Wh accepted",
+        ZeWithEnergy => "ZE code with 1 Wh refused",
+        EstimateWithEnergy => "code 16 with Wh accepted",
+        EarlyReadingThenRegistered => "reading before its meter's registration, which came later",
+        KnownMeterInFullBook => "known meter registered again in a full book",
+        RefusedForRoomThenRead => "reading for a meter that met a full book",
+        ShapeBackToMissing => "shape set back to missing",
+        AdditionalUnitUsed => "additional unit other than the base unit",
+        AdditionalUnitZero => "additional unit 0 beside another base unit",
+        RowSliceEmpty => "row slice of 0 words",
+        RowSliceOneOver => "row slice of 3k + 1 words, full",
+        RowSliceTwoOver => "row slice of 3k + 2 words, full",
+        CapacityJustBelowMost => "row slice of 196,607 words: full at 65,535 meters",
+        CapacityMost => "row slice above 196,608 words: full at 65,536 meters",
+        VolumeWords0 => "volume slice of 0 words",
+        VolumeWords31 => "volume slice of 31 words",
+        VolumeWords32 => "volume slice of 32 words",
+        VolumeWords33 => "volume slice of 33 words",
+        VolumeWords40 => "volume slice of 40 words",
+        DefaultExported => "defaulted export meter",
+        DeEnergisedActual => "de-energised, code 0 to 6, used",
+        DeEnergisedE2 => "de-energised, E2, used",
+        DeEnergisedE6 => "de-energised, E6, used",
+        DeEnergisedOther => "de-energised, other code, idle",
+        DisconnectedRead => "disconnected with a reading, idle",
+        LossNegative => "loss cell below 0",
+        LossHalfAbove => "loss cell at an exact half above 0",
+        LossHalfBelow => "loss cell at an exact half below 0",
+        LossRoundedOnce => "loss cell that rounding meter by meter would change",
+        WeightedBelowZero => "W below 0 refused",
+        WeightedZero => "W = 0 refused, meters in use",
+        WeightedOne => "W = 1 accepted",
+        ToleranceMet => "U at the tolerance exactly, not 0, accepted",
+        TolerancePassed => "U one Wh past the tolerance, refused",
+        TakeZero => "Take 0 accepted",
+        TakeNegative => "Take below 0 accepted",
+        ShareNegative => "share below 0 with a fraction",
+        UnitWeightedNegative => "unit with a below 0 in an accepted allocation",
+        LackingSome => "Wh lacking after rounding down",
+        LackingMany => "8 Wh or more lacking after rounding down",
+        TieAtTheCut => "equal fractions, some served and some not",
+        ProductPast64Bits => "U × a past 64 bits, accepted",
+        ProductPast27Digits => "U × a past 10^27, accepted",
+        ListResumed => "a list made on a book that calls had reached",
+        NumbersShort => "numbers slice one word short",
+        CallsBroken => "calls slice not a whole number of calls",
+        MovedAccepted => "list with moved readings, accepted",
+    }
+}
+
+const NUMBERS: usize = 20;
+
+/// Causes that can apply together: only then does it show which is looked at first.
+const TOGETHER: &[(u64, u64)] =
+    &[(1, 2), (1, 3), (1, 7), (2, 3), (2, 4), (2, 5), (2, 6), (3, 4), (3, 5), (7, 8), (7, 9), (8, 9), (8, 10), (9, 10)];
+
+pub struct Reach {
+    numbers: Vec<[u64; NUMBERS]>,
+    boundaries: Vec<Vec<u64>>,
+    situations: Vec<u64>,
+    damages: Vec<[u64; 2]>,
+    together: Vec<u64>,
+    pub damaged_calls: u64,
+}
+
+impl Default for Reach {
+    fn default() -> Reach {
+        let values = |b: &Boundaries| vec![0; b.inside.len() + b.outside.len()];
+        Reach {
+            numbers: vec![[0; NUMBERS]; Entry::ALL.len()],
+            boundaries: BOUNDARIES.iter().map(values).collect(),
+            situations: vec![0; Situation::ALL.len()],
+            damages: vec![[0; 2]; DamageKind::ALL.len()],
+            together: vec![0; TOGETHER.len()],
+            damaged_calls: 0,
+        }
+    }
+}
+
+impl Reach {
+    pub fn note_number(&mut self, entry: Entry, number: u64) {
+        self.numbers[entry as usize][number as usize] += 1;
+    }
+
+    pub fn note(&mut self, situation: Situation) {
+        self.situations[situation as usize] += 1;
+    }
+
+    pub fn note_if(&mut self, situation: Situation, met: bool) {
+        self.situations[situation as usize] += u64::from(met);
+    }
+
+    pub fn note_damage(&mut self, kind: DamageKind, ill_formed: bool) {
+        self.damages[kind as usize][usize::from(ill_formed)] += 1;
+    }
+
+    /// Notes the causes that applied to one call.
+    pub fn note_causes(&mut self, causes: &[u64]) {
+        if causes.len() < 2 {
+            return;
+        }
+        for ((lower, higher), count) in TOGETHER.iter().zip(&mut self.together) {
+            *count += u64::from(causes.contains(lower) && causes.contains(higher));
+        }
+    }
+
+    /// Notes the boundary values of a call on a well-formed book. One outside its range counts only if it is the only such
+    /// argument, and one inside only if there is none: elsewhere it would not have decided the number.
+    pub fn note_boundaries(&mut self, call: &Call) {
+        let arguments = call.arguments();
+        let outside = arguments.iter().filter(|(a, value)| !in_range(*a, *value));
+        let outside_count = outside.count();
+        for (argument, value) in arguments {
+            let values = boundaries(argument);
+            let decides = usize::from(!in_range(argument, value)) == outside_count;
+            let all = values.inside.iter().chain(values.outside);
+            if let Some(index) = all.clone().position(|&v| v == value).filter(|_| decides) {
+                self.boundaries[argument as usize][index] += 1;
+            }
+        }
+    }
+
+    /// What was never reached.
+    pub fn missing(&self) -> Vec<String> {
+        let mut missing = Vec::new();
+        for &entry in Entry::ALL {
+            for &number in entry.reachable() {
+                if self.numbers[entry as usize][number as usize] == 0 {
+                    missing.push(format!("number {number} from {}", entry.words()));
+                }
+            }
+        }
+        for (values, counts) in BOUNDARIES.iter().zip(&self.boundaries) {
+            for (value, count) in values.inside.iter().chain(values.outside).zip(counts) {
+                if *count == 0 {
+                    missing.push(format!("{} {value}", values.words));
+                }
+            }
+        }
+        for ((lower, higher), count) in TOGETHER.iter().zip(&self.together) {
+            if *count == 0 {
+                missing.push(format!("causes {lower} and {higher} together"));
+            }
+        }
+        for &situation in Situation::ALL {
+            if self.situations[situation as usize] == 0 {
+                missing.push(String::from(situation.words()));
+            }
+        }
+        for &kind in DamageKind::ALL {
+            if self.damages[kind as usize] == [0, 0] {
+                missing.push(format!("damage: {}", kind.words()));
+            }
+        }
+        missing
+    }
+
+    pub fn table(&self) -> String {
+        let mut table = String::new();
+        self.write_numbers(&mut table);
+        self.write_boundaries(&mut table);
+        self.write_situations(&mut table);
+        self.write_damages(&mut table);
+        table
+    }
+
+    fn write_numbers(&self, table: &mut String) {
+        let columns = [0, 1, 2, 3, 4, 5, 6, 7, 8, 9, 10, 11, 19];
+        let _ = write!(table, "How often each number was given\n{:24}", "");
+        for number in columns {
+            let _ = write!(table, " {number:>8}");
+        }
+        for &entry in Entry::ALL {
+            let _ = write!(table, "\n{:24}", entry.words());
+            for number in columns {
+                if entry.reachable().contains(&number) {
+                    let count = self.numbers[entry as usize][number as usize];
+                    let _ = write!(table, " {count:>8}");
+                } else {
+                    let _ = write!(table, " {:>8}", "-");
+                }
+            }
+        }
+        table.push_str("\n\nHow often two causes applied to one call\n");
+        for ((lower, higher), count) in TOGETHER.iter().zip(&self.together) {
+            let _ = write!(table, "{lower} and {higher}: {count}  ");
+        }
+        table.push('\n');
+    }
+
+    fn write_boundaries(&self, table: &mut String) {
+        table.push_str("\nHow often each boundary value decided, inside | outside its range\n");
+        for (values, counts) in BOUNDARIES.iter().zip(&self.boundaries) {
+            let _ = write!(table, "{:27}", values.words);
+            for (index, value) in values.inside.iter().chain(values.outside).enumerate() {
+                let bar = if index == values.inside.len() { " |" } else { "" };
+                let _ = write!(table, "{bar} {value}: {}", counts[index]);
+            }
+            table.push('\n');
+        }
+    }
+
+    fn write_situations(&self, table: &mut String) {
+        table.push_str("\nHow often each situation was met\n");
+        for &situation in Situation::ALL {
+            let count = self.situations[situation as usize];
+            let _ = writeln!(table, "{count:>9}  {}", situation.words());
+        }
+    }
+
+    fn write_damages(&self, table: &mut String) {
+        table.push_str("\nHow many books were damaged so: ill formed, still well formed\n");
+        for &kind in DamageKind::ALL {
+            let [well, ill] = self.damages[kind as usize];
+            let _ = writeln!(table, "{ill:>9} {well:>9}  {}", kind.words());
+        }
+    }
+}
