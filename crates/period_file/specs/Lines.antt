@@ -1,5 +1,6 @@
 -- The lines of a period file, the order of their kinds, and the call of each.
 use Prim.Native.Nat.{ℕ}
+use mathlib.Core.Path.{_≡_}
 use mathlib.Core.Bool.{Bool, true, false, _&&_, _||_, cond}
 use mathlib.Core.List.{List, [], _∷_}
 use lib.Dec.{leb, ltb, eqb}
@@ -7,6 +8,9 @@ use lib.ListN.{length, drop}
 use Rattle.book.specs.Book.{Book}
 use Rattle.book.specs.Causes.{accepted}
 use Rattle.book.specs.Calls.{shape, weight, tolerance, groupTake, Call, register, reading, setting, Outcome, callOutcome}
+use Rattle.book.specs.declared.Answer.{Answer}
+use Rattle.book.specs.Contracts.{Gives}
+use Rattle.period_file.specs.declared.Taken.{Taken}
 use Rattle.period_file.specs.declared.Number.{Number}
 use Rattle.period_file.specs.declared.Signed.{Signed}
 use Rattle.period_file.specs.declared.Additional.{Additional}
@@ -152,3 +156,8 @@ callsOutcome b (c ∷ calls) = callOutcome b c
 
 abbrev pub lineOutcome : Book → Line → Outcome
 lineOutcome b line = callsOutcome b (callsOf line)
+
+-- what taking a line gives, after lines of which the last had that kind: its kind, and what its call leaves
+pub record LineTaken (b : Book) (last : ℕ) (line : List ℕ) (taken : Taken) (rowsAfter : List ℕ) : Type 0 where
+  pub kind : taken .kind ≡ kindOf (lineAfter last line)
+  pub gives : Gives (lineOutcome b (lineAfter last line)) (taken .answer) rowsAfter

@@ -1,5 +1,8 @@
 // The call of a line.
 use crate::Line;
+use crate::Taken;
+use crate::lines::kind_of;
+use crate::lines::read_line;
 use book::Answer;
 use book::Settings;
 use book::calls::ACCEPTED;
@@ -10,7 +13,7 @@ use book::calls::set_take;
 use book::calls::set_tolerance;
 use book::calls::set_weight;
 ghost use Rattle.book.specs.Contracts.{lent, Gives};
-ghost use Rattle.period_file.specs.Lines.{lineOutcome};
+ghost use Rattle.period_file.specs.Lines.{lineOutcome, LineTaken};
 
 // Makes the call of a line on the book; a line out of form makes none.
 pub fn make_call(settings: Settings, rows: &mut [u64], line: Line) -> Answer
@@ -28,4 +31,14 @@ pub fn make_call(settings: Settings, rows: &mut [u64], line: Line) -> Answer
         Line::Meter { mpan, registration } => register(settings, rows, mpan, registration),
         Line::Reading { mpan, reading } => record_reading(settings, rows, mpan, reading),
     }
+}
+
+// Reads a line that stands after one of that kind, and makes its call.
+pub fn answer_line(settings: Settings, last_kind: u64, rows: &mut [u64], line: &[u8]) -> Taken
+    ensures { λ r. ⌜ LineTaken (lent settings (now (rows .entry))) «last_kind» (now (line .entry)) r (now (rows .exit)) ⌝ }
+{
+    let found = read_line(line, last_kind);
+    let kind = kind_of(found);
+    let answer = make_call(settings, rows, found);
+    Taken { kind, answer }
 }

@@ -1,4 +1,5 @@
 // The lines of a period file: whether a line is in form, which kind it is, and which call it makes.
+use book::Answer;
 use words::Registration;
 
 pub mod calls;
@@ -46,4 +47,10 @@ pub enum Line {
         mpan: u64,
         reading: words::Reading,
     },
+}
+
+// A line that was read and its call: the kind, 0 if the line is out of form, and what the call answered.
+pub struct Taken {
+    pub kind: u64,
+    pub answer: Answer,
 }

@@ -6,6 +6,7 @@ mod output;
 mod report;
 
 use book::Settings;
+use period_file::lines::LINE_MAX;
 
 // The words of 512 meters.
 const ROW_WORDS: usize = 1_536;
@@ -46,8 +47,8 @@ fn read_all(state: State, line: &mut [u8], rows: &mut [u64], out: &mut [u8]) -> 
 
 // Reads standard input and prints to standard output.
 pub fn run() {
-    let mut rows = [0u64; 1_536];
-    let mut line = [0u8; 80];
+    let mut rows = [0u64; ROW_WORDS];
+    let mut line = [0u8; LINE_MAX];
     let mut out = [0u8; 4_096];
     let fresh = State {
         settings: Settings::fresh(),

@@ -3,9 +3,7 @@ use crate::State;
 use crate::report::put_refused;
 use crate::report::put_value;
 use book::calls::ACCEPTED;
-use period_file::calls::make_call;
-use period_file::lines::kind_of;
-use period_file::lines::read_line;
+use period_file::calls::answer_line;
 ghost use Prim.Native.Nat.{_≤_, _<_};
 ghost use lib.ListN.{length};
 ghost use Rattle.settle_run.specs.Gathering.{Ahead};
@@ -74,16 +72,15 @@ fn out_of_form(state: State, out: &mut [u8]) -> State {
 
 // The end of a line: its call is made, and a refusal printed.
 fn end_line(state: State, line: &[u8], rows: &mut [u64], out: &mut [u8]) -> State {
-    let found = read_line(line, state.last_kind);
-    let kind = kind_of(found);
-    if kind == 0 {
+    let taken = answer_line(state.settings, state.last_kind, rows, line);
+    if taken.kind == 0 {
         return out_of_form(state, out);
     }
-    let answer = make_call(state.settings, rows, found);
+    let answer = taken.answer;
     let settings = answer.settings;
     let mut next = state;
     next.settings = settings;
-    next.last_kind = kind;
+    next.last_kind = taken.kind;
     next.length = 0;
     next.line = std::num::wrapping_add_u64(state.line, 1);
     if answer.number != ACCEPTED {
