@@ -2,8 +2,10 @@
 
 use crate::call::Call;
 use crate::check::Case;
+use crate::library::{Reading, Registration};
 use crate::model::allocation::Sums;
 use crate::model::ranges::{call_in_range, capacity};
+use crate::model::words::{reading_word, registration_word};
 use crate::model::Book;
 use crate::profile::Profile;
 use crate::random::Random;
@@ -36,13 +38,36 @@ fn random_mpans(count: usize, random: &mut Random) -> Vec<u64> {
     mpans
 }
 
-/// The words of a row slice: nothing is promised of them, so they are random, or look like rows.
+/// The words of a row slice: nothing is promised of them. They are random, or the rows of an earlier half hour.
 fn random_rows(words: usize, random: &mut Random) -> Vec<u64> {
     match random.index(4) {
         0 => vec![0; words],
-        1 => vec![1_234_567_890_123; words],
+        1 => stale_rows(words, random),
         _ => random.words(words),
     }
+}
+
+/// Rows in order that a well-formed book could have, so that a call which looks past the last used row is misled.
+fn stale_rows(words: usize, random: &mut Random) -> Vec<u64> {
+    let mut mpan = random.between(1_000_000_000_000, 9_000_000_000_000);
+    let mut rows = Vec::with_capacity(words + 2);
+    while rows.len() < words {
+        mpan += random.between(1, 1_000);
+        let registration = Registration {
+            segment: 1,
+            direction: 0,
+            status: 2,
+            base: random.below(32),
+            flag: 0,
+            additional: 0,
+            category: random.below(64),
+            llf: 1_000,
+        };
+        let reading = Reading { issue: random.between(1, 4_294_967_295), quality: 0, consumption: 100 };
+        rows.extend([mpan, registration_word(&registration), reading_word(&reading)]);
+    }
+    rows.truncate(words);
+    rows
 }
 
 fn random_row_words(random: &mut Random) -> usize {
@@ -107,8 +132,9 @@ fn aim_readings(calls: &mut [Call], random: &mut Random) {
     for call in calls {
         match call {
             Call::Register { mpan, .. } => registered.push(*mpan),
-            Call::Reading { mpan, .. } if !registered.is_empty() => {
-                if !registered.contains(mpan) && random.percent(70) {
+            Call::Reading { mpan, .. } => {
+                let early = !registered.contains(mpan);
+                if early && !registered.is_empty() && random.percent(70) {
                     *mpan = *random.pick(&registered);
                 }
             }

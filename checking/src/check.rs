@@ -2,10 +2,10 @@
 
 use crate::books::random_volume_words;
 use crate::call::{list_words, Call};
-use crate::compare::{at, same, same_allocated, same_settings, same_words, Checked, Failure};
+use crate::compare::{at, same, same_allocated, same_settings, same_words, Checked};
 use crate::lent::{Guarded, Lent};
 use crate::library::{self, CALL_WORDS};
-use crate::model::allocation::{allocate, Allocation};
+use crate::model::allocation::{allocate, Allocation, Contents};
 use crate::model::ranges::capacity;
 use crate::model::{Book, Meaning};
 use crate::observe::{note_allocation, note_call, note_list};
@@ -197,16 +197,34 @@ fn check_meaning(meaning: &Meaning, book: &Book) -> Checked {
     if book.contents() == meaning.contents() {
         return Ok(());
     }
-    Err(Failure(format!("after the calls: {:?}, but the list means {:?}", book.contents(), meaning.contents())))
+    let (after, meant) = (in_lines(&book.contents()), in_lines(&meaning.contents()));
+    same_words("book after the calls, against the list's meaning", &after, &meant)
 }
 
-/// Of an accepted allocation: the volumes add up to the last accepted Take, and the counts to the number of meters.
+/// The contents of a book in words, the settings first and then each meter.
+fn in_lines(contents: &Contents) -> Vec<String> {
+    let mut lines = vec![
+        format!("weights {:?}", contents.weights),
+        format!("shapes {:?}", contents.shapes),
+        format!("tolerance {}, take {:?}", contents.tolerance, contents.take_wh),
+    ];
+    lines.extend(contents.meters.iter().map(|meter| format!("{meter:?}")));
+    lines
+}
+
+/// Of an accepted allocation: the volumes add up to the last accepted Take, each is under 1 Wh from its exact share, and the
+/// counts add up to the number of meters.
 fn check_demand(meaning: &Meaning, allocation: &Allocation, volumes: &[i64]) -> Checked {
-    if allocation.workings.is_none() {
+    let Some(workings) = &allocation.workings else {
         return Ok(());
-    }
+    };
     let total: i64 = volumes[..library::UNITS].iter().sum();
     same("sum of the volumes", total, meaning.take_wh.unwrap_or(0))?;
+    for (unit, (share, volume)) in workings.shares.iter().zip(volumes).enumerate() {
+        let above_wh = i128::from(*volume) - share.whole_wh;
+        let near = above_wh == 0 || (above_wh == 1 && !share.fraction.is_zero());
+        same(&format!("volume of unit {unit} under 1 Wh from its share"), near, true)?;
+    }
     let answer = &allocation.answer;
     let counted = answer.actual + answer.estimated + answer.defaulted + answer.idle;
     same("sum of the counts", counted, meaning.meters.len() as u64)

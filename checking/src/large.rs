@@ -6,6 +6,7 @@ use crate::compare::{at, Checked};
 use crate::lent::Lent;
 use crate::library::{Reading, Registration, CLASSES, ROW_WORDS};
 use crate::model::ranges::METERS_MOST;
+use crate::model::Book;
 use crate::moved::check_moved;
 use crate::random::Random;
 use crate::reach::{Reach, Situation};
@@ -95,36 +96,38 @@ fn large_case(row_words: usize, load: Load, random: &mut Random) -> Case {
     Case { rows: random.words(row_words), calls, volumes: random.signed_words(33), seed: random.word() }
 }
 
-/// Two full books: one as large as a book can be, in a slice that has room for more, and one that is one meter smaller.
-pub fn check_large(random: &mut Random, reach: &mut Reach) -> Checked {
+/// Full books: one as large as a book can be, in a slice that just fits it and in a longer one, and one that is a meter smaller.
+pub fn large_cases(random: &mut Random) -> Vec<Case> {
     let most = ROW_WORDS * METERS_MOST;
     let longer = most + 1 + random.index(9);
-    let full = check_one(&large_case(longer, Load::Most, random), random, reach);
-    at(|| format!("full book of {METERS_MOST} meters, {longer} row words"), full)?;
-    reach.note(Situation::CapacityMost);
-    let smaller = check_one(&large_case(most - 1, Load::Mixed, random), random, reach);
-    at(|| format!("full book of {} meters", METERS_MOST - 1), smaller)?;
-    reach.note(Situation::CapacityJustBelowMost);
-    Ok(())
+    let sizes = [(most - 1, Load::Mixed), (most, Load::Mixed), (longer, Load::Most)];
+    sizes.into_iter().map(|(row_words, load)| large_case(row_words, load, random)).collect()
 }
 
-fn check_one(case: &Case, random: &mut Random, reach: &mut Reach) -> Checked {
+/// Checks a case made as one list, and with its readings moved; then some of its calls again, one by one, on the book reached.
+pub fn check_large(case: &Case, reach: &mut Reach) -> Checked {
     let expected = Expected::of(case);
-    assert!(expected.book.is_full(), "the list fills the book");
-    assert!(expected.numbers.contains(&6), "and has one meter more");
+    note_capacity(reach, &expected, case.rows.len());
     check_lists(case, &expected, reach)?;
     check_moved(case, reach)?;
-    check_last_calls(case, &expected, random, reach)
+    check_calls_again(case, expected.book, reach)
 }
 
-/// The last calls again, one by one, on the full book, and an allocation.
-fn check_last_calls(case: &Case, expected: &Expected, random: &mut Random, reach: &mut Reach) -> Checked {
-    let mut book = expected.book.clone();
+fn note_capacity(reach: &mut Reach, expected: &Expected, row_words: usize) {
+    let most = ROW_WORDS * METERS_MOST;
+    let met_no_room = expected.book.is_full() && expected.numbers.contains(&6);
+    reach.note_if(Situation::CapacityJustBelowMost, met_no_room && row_words == most - 1);
+    reach.note_if(Situation::CapacityMost, met_no_room && row_words == most);
+    reach.note_if(Situation::SlicePastCapacity, met_no_room && row_words > most);
+}
+
+fn check_calls_again(case: &Case, mut book: Book, reach: &mut Reach) -> Checked {
+    let random = &mut Random::part(case.seed, 7);
     let mut lent = Lent::new(book.settings(), &book.words());
-    for _ in 0..20 {
+    for _ in 0..case.calls.len().min(20) {
         let call = random.pick(&case.calls);
         let number = book.make(call);
-        at(|| format!("{call}"), check_call(&mut lent, call, number, Some(&book)))?;
+        at(|| format!("after the list, {call}"), check_call(&mut lent, call, number, Some(&book)))?;
     }
     check_allocation(&mut lent, Some(&book), &case.volumes, reach)
 }

@@ -1,4 +1,4 @@
-//! `checking [--seed N] [--books N] [--only K] [--settle PATH] [--files N]`
+//! The command line of the checking program; `--help` prints it.
 
 use std::env;
 use std::path::PathBuf;
@@ -13,11 +13,14 @@ use checking::settle::drive::{check_settle, Runs};
 const USAGE: &str = "\
 checking: compares the proved library with a second method on random books
   --seed N       the seed of the run (default 20240401)
-  --books N      how many random books (default 30000)
+  --books N      how many random books (default 80000)
   --only K       only the random book of this number, to look at a failure again
   --settle PATH  also run the program settle on random period files
   --files N      how many period files (default 1500)
-Exit status: 0 all agree; 1 something differs or was never reached; 2 bad usage.";
+  --quiet        no tables of what was reached; a failure is printed all the same
+  --help         print this
+Exit status: 0 all agree; 1 something differs or was never reached; 2 bad usage.
+A run of a few hundred books or files may not reach everything.";
 
 struct Options {
     seed: u64,
@@ -25,28 +28,44 @@ struct Options {
     only: Option<u64>,
     settle: Option<PathBuf>,
     files: u64,
+    quiet: bool,
 }
 
-fn options() -> Result<Options, String> {
-    let mut options = Options { seed: 20_240_401, books: 30_000, only: None, settle: None, files: 1_500 };
-    let mut words = env::args().skip(1);
-    while let Some(word) = words.next() {
-        let value = words.next().ok_or(format!("{word} needs a value, or is unknown"))?;
-        let number = || value.parse::<u64>().map_err(|_| format!("{word} {value}: no number"));
-        match word.as_str() {
-            "--seed" => options.seed = number()?,
-            "--books" => options.books = number()?,
-            "--only" => options.only = Some(number()?),
-            "--settle" => options.settle = Some(PathBuf::from(&value)),
-            "--files" => options.files = number()?,
-            _ => return Err(format!("{word} is unknown")),
+impl Options {
+    fn of(words: impl Iterator<Item = String>) -> Result<Options, String> {
+        let mut options =
+            Options { seed: 20_240_401, books: 80_000, only: None, settle: None, files: 1_500, quiet: false };
+        let mut words = words;
+        while let Some(word) = words.next() {
+            match word.as_str() {
+                "--seed" => options.seed = number_after(&word, &mut words)?,
+                "--books" => options.books = number_after(&word, &mut words)?,
+                "--only" => options.only = Some(number_after(&word, &mut words)?),
+                "--settle" => options.settle = Some(PathBuf::from(value_after(&word, &mut words)?)),
+                "--files" => options.files = number_after(&word, &mut words)?,
+                "--quiet" => options.quiet = true,
+                _ => return Err(format!("{word} is unknown")),
+            }
         }
+        Ok(options)
     }
-    Ok(options)
+}
+
+fn value_after(word: &str, words: &mut impl Iterator<Item = String>) -> Result<String, String> {
+    words.next().ok_or(format!("{word} needs a value"))
+}
+
+fn number_after(word: &str, words: &mut impl Iterator<Item = String>) -> Result<u64, String> {
+    let value = value_after(word, words)?;
+    value.parse().map_err(|_| format!("{word} {value}: no number"))
 }
 
 fn main() -> ExitCode {
-    let options = match options() {
+    if env::args().any(|word| word == "--help") {
+        println!("{USAGE}");
+        return ExitCode::SUCCESS;
+    }
+    let options = match Options::of(env::args().skip(1)) {
         Ok(options) => options,
         Err(fault) => {
             eprintln!("{fault}\n{USAGE}");
@@ -55,7 +74,7 @@ fn main() -> ExitCode {
     };
     println!("checking with seed {}", options.seed);
     let outcome = match options.only {
-        Some(index) => check_book(options.seed, index, &mut Reach::default()),
+        Some(index) => check_only(&options, index),
         None => check_all(&options),
     };
     match outcome {
@@ -67,6 +86,12 @@ fn main() -> ExitCode {
     }
 }
 
+fn check_only(options: &Options, index: u64) -> Result<(), Failure> {
+    check_book(options.seed, index, &mut Reach::default())?;
+    println!("book {index} agrees (seed {})", options.seed);
+    Ok(())
+}
+
 fn check_all(options: &Options) -> Result<(), Failure> {
     let reach = &mut Reach::default();
     let figures = check_figures(reach)?;
@@ -76,12 +101,12 @@ fn check_all(options: &Options) -> Result<(), Failure> {
     }
     check_large_books(options.seed, reach)?;
     let runs = run_settle(options)?;
-    println!("{}", reach.table());
-    let mut missing = reach.missing();
-    if let Some(runs) = runs {
-        println!("{}", runs.table());
-        missing.extend(runs.missing());
+    let runs_table = runs.as_ref().map_or(String::new(), Runs::table);
+    if !options.quiet {
+        println!("\n{}{runs_table}", reach.table());
     }
+    let mut missing = reach.missing();
+    missing.extend(runs.iter().flat_map(Runs::missing));
     if !missing.is_empty() {
         return Err(Failure(format!("never reached: {}", missing.join("; "))));
     }

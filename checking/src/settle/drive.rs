@@ -2,10 +2,10 @@
 
 use std::io::{Read, Write};
 use std::path::Path;
-use std::process::{Child, ChildStdin, ChildStdout, Command, Stdio};
+use std::process::{self, Child, ChildStdin, ChildStdout, Command, Stdio};
 use std::sync::mpsc;
-use std::thread;
 use std::time::Duration;
+use std::{env, fs, thread};
 
 use crate::compare::Failure;
 use crate::figures::{EXAMPLE_INPUT, EXAMPLE_OUTPUT};
@@ -15,7 +15,7 @@ use crate::settle::format::output_of;
 use crate::shrink::smallest;
 
 /// A program that has not ended by then never will.
-const LONGEST_RUN: Duration = Duration::from_secs(30);
+const LONGEST_RUN: Duration = Duration::from_secs(20);
 
 /// Writes the input in pieces of odd sizes, so that the program's reads end anywhere.
 fn feed(mut stdin: ChildStdin, input: Vec<u8>, mut random: Random) {
@@ -49,35 +49,49 @@ fn drain(mut stdout: ChildStdout, piece: usize) -> Vec<u8> {
     output
 }
 
-fn start(program: &Path) -> Result<Child, Failure> {
-    Command::new(program)
-        .stdin(Stdio::piped())
-        .stdout(Stdio::piped())
-        .stderr(Stdio::null())
-        .spawn()
-        .map_err(|error| Failure(format!("{} does not start: {error}", program.display())))
+fn start(program: &Path, stdin: Stdio) -> Result<Child, Failure> {
+    let mut command = Command::new(program);
+    let command = command.stdin(stdin).stdout(Stdio::piped()).stderr(Stdio::null());
+    command.spawn().map_err(|error| Failure(format!("{} does not start: {error}", program.display())))
+}
+
+/// Starts the program on a regular file with the input.
+fn start_on_file(program: &Path, input: &[u8]) -> Result<Child, Failure> {
+    let path = env::temp_dir().join(format!("cepnhoy-checking-{}", process::id()));
+    let opened = fs::write(&path, input).and_then(|()| fs::File::open(&path));
+    let _ = fs::remove_file(&path);
+    let file = opened.map_err(|error| Failure(format!("{}: {error}", path.display())))?;
+    start(program, Stdio::from(file))
+}
+
+/// Starts the program on a pipe, and feeds it the input.
+fn start_on_pipe(program: &Path, input: &[u8], random: &Random) -> Result<Child, Failure> {
+    let mut child = start(program, Stdio::piped())?;
+    let stdin = child.stdin.take().expect("stdin is a pipe");
+    let (input, feeding) = (input.to_vec(), random.clone());
+    thread::spawn(move || feed(stdin, input, feeding));
+    Ok(child)
 }
 
 /// What the program prints for an input.
 fn run(program: &Path, input: &[u8], random: &mut Random) -> Result<Vec<u8>, Failure> {
-    let mut child = start(program)?;
-    let stdin = child.stdin.take().expect("stdin is a pipe");
+    let mut child = match random.percent(10) {
+        true => start_on_file(program, input)?,
+        false => start_on_pipe(program, input, random)?,
+    };
     let stdout = child.stdout.take().expect("stdout is a pipe");
-    let (input, feeding) = (input.to_vec(), random.clone());
     let piece = *random.pick(&[1, 13, 4_096]);
     let (sender, receiver) = mpsc::channel();
-    let feeder = thread::spawn(move || feed(stdin, input, feeding));
     thread::spawn(move || sender.send(drain(stdout, piece)));
     let output = receiver.recv_timeout(LONGEST_RUN);
     if output.is_err() {
         let _ = child.kill();
     }
     let status = child.wait().map_err(|error| Failure(error.to_string()))?;
-    let _ = feeder.join();
     match (output, status.code()) {
         (Ok(output), Some(_)) => Ok(output),
-        (Ok(_), None) => Err(Failure(format!("settle was ended by a signal: {status}"))),
-        (Err(_), _) => Err(Failure(String::from("settle did not end"))),
+        (Ok(_), None) => Err(Failure(format!("settle was ended by a signal: {status}\n"))),
+        (Err(_), _) => Err(Failure(format!("settle did not end within {LONGEST_RUN:?}\n"))),
     }
 }
 
@@ -97,61 +111,64 @@ fn in_lines(bytes: &[u8]) -> String {
     lines.map(|line| format!("    {}\n", line.escape_ascii())).collect()
 }
 
-/// How often each damage was done, and how the files ended.
+/// The refusals that a line's call can have, and the statuses that the allocation can have: the program lends 32 volume words
+/// with a book of its own, so 1 and 7 never come.
+const REFUSALS: [&str; 5] = ["2", "3", "4", "5", "6"];
+const STATUSES: [&str; 5] = ["0", "8", "9", "10", "11"];
+
+/// How often each damage was done, and what the program had to print.
 #[derive(Default)]
 pub struct Runs {
     damages: Vec<u64>,
     out_of_form: u64,
-    refused: u64,
-    statuses: [u64; 12],
+    refusals: [u64; REFUSALS.len()],
+    statuses: [u64; STATUSES.len()],
 }
 
 impl Runs {
     fn note(&mut self, damage: FileDamage, output: &[u8]) {
         self.damages.resize(FileDamage::ALL.len(), 0);
         self.damages[damage as usize] += 1;
-        let text = String::from_utf8_lossy(output);
-        self.refused += text.lines().filter(|line| line.starts_with("refused=")).count() as u64;
-        self.out_of_form += u64::from(text.contains("line="));
-        let status = text.lines().find_map(|line| line.strip_prefix("status="));
-        if let Some(Ok(status)) = status.map(str::parse::<usize>) {
-            self.statuses[status] += 1;
+        for line in String::from_utf8_lossy(output).lines() {
+            match line.split_once('=') {
+                Some(("line", _)) => self.out_of_form += 1,
+                Some(("status", status)) => count_in(&STATUSES, &mut self.statuses, status),
+                Some(("refused", of)) => {
+                    let number = of.split(',').nth(1).unwrap_or_default();
+                    count_in(&REFUSALS, &mut self.refusals, number);
+                }
+                _ => {}
+            }
         }
     }
 
-    /// What was never met. A program that lends 32 volume words to a book of its own never has causes 1 to 7.
+    /// How often each was met, with its words.
+    fn counts(&self) -> Vec<(u64, String)> {
+        let files = FileDamage::ALL.iter().map(|damage| format!("period files with {}", damage.words()));
+        let refusals = REFUSALS.iter().map(|number| format!("lines refused with {number}"));
+        let statuses = STATUSES.iter().map(|number| format!("files with status={number}"));
+        let mut counts = vec![(self.out_of_form, String::from("files with a line out of form"))];
+        counts.extend(self.statuses.iter().copied().zip(statuses));
+        counts.extend(self.refusals.iter().copied().zip(refusals));
+        counts.extend(self.damages.iter().copied().zip(files));
+        counts
+    }
+
+    /// What was never met.
     pub fn missing(&self) -> Vec<String> {
-        let mut missing = Vec::new();
-        for (damage, count) in FileDamage::ALL.iter().zip(&self.damages) {
-            if *count == 0 {
-                missing.push(format!("period file: {}", damage.words()));
-            }
-        }
-        for status in [0, 8, 9, 10, 11] {
-            if self.statuses[status] == 0 {
-                missing.push(format!("status={status} of settle"));
-            }
-        }
-        if self.refused == 0 {
-            missing.push(String::from("a refused line of settle"));
-        }
-        missing
+        let never = self.counts().into_iter().filter(|(count, _)| *count == 0);
+        never.map(|(_, words)| words).collect()
     }
 
     pub fn table(&self) -> String {
-        let mut table = String::from("\nHow many period files were damaged so\n");
-        for (damage, count) in FileDamage::ALL.iter().zip(&self.damages) {
-            table.push_str(&format!("{count:>9}  {}\n", damage.words()));
-        }
-        let statuses: Vec<String> =
-            [0, 8, 9, 10, 11].iter().map(|&status| format!("status={status}: {}", self.statuses[status])).collect();
-        table.push_str(&format!(
-            "Files that ended in a line out of form: {}; {}; refused lines: {}\n",
-            self.out_of_form,
-            statuses.join(", "),
-            self.refused
-        ));
-        table
+        let lines = self.counts().into_iter().map(|(count, words)| format!("{count:>9}  {words}\n"));
+        format!("\nWhat settle was run on, and what it had to print\n{}", lines.collect::<String>())
+    }
+}
+
+fn count_in(names: &[&str; 5], counts: &mut [u64; 5], name: &str) {
+    if let Some(index) = names.iter().position(|other| *other == name) {
+        counts[index] += 1;
     }
 }
 
@@ -164,7 +181,7 @@ pub fn check_settle(program: &Path, seed: u64, files: u64) -> Result<Runs, Failu
     let mut runs = Runs::default();
     for index in 0..files {
         let random = &mut Random::part(seed ^ 0x5e77_1e00, index);
-        let (file, damage) = random_file(random);
+        let (file, damage) = random_file(index, random);
         let input = file.bytes();
         let wanted = output_of(&input);
         runs.note(damage, &wanted);

@@ -8,8 +8,8 @@ use crate::random::Random;
 named! {
     /// What is done to a file that was in form.
     FileDamage {
-        None => "nothing",
-        NoLastLineEnd => "last line's end missing",
+        None => "nothing damaged",
+        NoLastLineEnd => "the last line's end missing",
         EightyBytes => "a line of 80 bytes, in form",
         EightyOneBytes => "a line of 81 bytes, else in form",
         VeryLongLine => "a line of thousands of bytes",
@@ -22,7 +22,7 @@ named! {
         HighByte => "a byte above 127",
         Letter => "a letter in a number",
         UnknownKey => "an unknown key",
-        UpperCaseKey => "a key in capitals",
+        CapitalKey => "a key in capitals",
         NoEquals => "no equals sign",
         TwoEquals => "two equals signs",
         FieldMissing => "a field missing",
@@ -31,7 +31,7 @@ named! {
         LeadingZero => "a leading zero",
         EighteenDigits => "a number of 18 digits, in form",
         NineteenDigits => "a number of 19 digits",
-        MinusZero => "take=-0",
+        MinusZero => "a take of -0",
         MinusTwice => "two minuses",
         MinusElsewhere => "a minus before another number than take",
         SecondTake => "a second take",
@@ -39,7 +39,7 @@ named! {
         KindOutOfOrder => "a kind out of order",
         ByteChanged => "a random byte changed",
         ByteDropped => "a random byte dropped",
-        CutShort => "cut short at a random byte",
+        CutShort => "the end cut off at a random byte",
     }
 }
 
@@ -102,16 +102,17 @@ fn file_in_form(meters: usize, random: &mut Random) -> PeriodFile {
     PeriodFile { lines: calls.iter().map(|call| line_of(call).into_bytes()).collect(), last_line_ends: true }
 }
 
-/// A random file and what was done to it. Now and then there are more meters than `settle` has room for.
-pub fn random_file(random: &mut Random) -> (PeriodFile, FileDamage) {
+/// The random file of this number and what was done to it: every other one is damaged, in each way in turn. Now and then there
+/// are more meters than `settle` has room for.
+pub fn random_file(index: u64, random: &mut Random) -> (PeriodFile, FileDamage) {
     let meters = match random.index(60) {
         0 => random.between(500, 600) as usize,
         _ => random.index(24),
     };
     let mut file = file_in_form(meters, random);
-    let damage = match random.percent(40) {
-        true => FileDamage::None,
-        false => *random.pick(FileDamage::ALL),
+    let damage = match index % 2 {
+        0 => FileDamage::None,
+        _ => FileDamage::ALL[index as usize / 2 % FileDamage::ALL.len()],
     };
     damage_file(&mut file, damage, random);
     (file, damage)
@@ -222,7 +223,7 @@ fn bent(text: &str, damage: FileDamage, random: &mut Random) -> Vec<u8> {
         FileDamage::CarriageReturn => format!("{text}\r"),
         FileDamage::Plus => before_a_field(text, "+", random),
         FileDamage::Letter => before_a_field(text, "x", random),
-        FileDamage::UpperCaseKey => format!("{}={value}", key.to_uppercase()),
+        FileDamage::CapitalKey => format!("{}={value}", key.to_uppercase()),
         FileDamage::NoEquals => format!("{key}{value}"),
         FileDamage::TwoEquals => format!("{key}=={value}"),
         FileDamage::FieldMissing => match text.rsplit_once(',') {

@@ -160,3 +160,77 @@ pub fn output_of(input: &[u8]) -> Vec<u8> {
     text.push_str(&allocation_text(&allocation.answer, &volumes));
     text.into_bytes()
 }
+
+#[cfg(test)]
+mod tests {
+    use super::{call_of, output_of};
+
+    const IN_FORM: [&str; 9] = [
+        "take=0",
+        "take=-1",
+        "take=999999999999999999",
+        "tolerance=1000",
+        "weight=24,1001",
+        "shape=63,4294967295",
+        "meter=1200000000002,1,0,2,0,-,0,1000",
+        "meter=1200000000002,1,0,2,0,0,0,1000",
+        "reading=1200000000002,1,0,100",
+    ];
+
+    const OUT_OF_FORM: [&str; 22] = [
+        "",
+        "=",
+        "take",
+        "take=",
+        "take=-",
+        "take=-0",
+        "take=+1",
+        "take=--1",
+        "take=01",
+        "take= 1",
+        "take=1\r",
+        "take=1000000000000000000",
+        "Take=1",
+        "tolerance=-1",
+        "weight=8",
+        "weight=8,1000,",
+        "weight=8,1000,1",
+        "weight=8,,1000",
+        "shape=63,-",
+        "meter=1200000000002,1,0,2,0,-,0",
+        "meter=1200000000002,1,0,2,-,-,0,1000",
+        "volume=0,1",
+    ];
+
+    #[test]
+    fn lines_in_form() {
+        for line in IN_FORM {
+            assert!(call_of(line.as_bytes()).is_some(), "{line}");
+        }
+    }
+
+    #[test]
+    fn lines_out_of_form() {
+        for line in OUT_OF_FORM {
+            assert!(call_of(line.as_bytes()).is_none(), "{line}");
+        }
+    }
+
+    #[test]
+    fn files() {
+        let cases: [(&str, &str); 9] = [
+            ("", "status=8\n"),
+            ("\n", "line=1\n"),
+            ("take=0", "status=10\n"),
+            ("take=0\n", "status=10\n"),
+            ("take=0\n\n", "line=2\n"),
+            ("take=0\ntake=0\n", "line=2\n"),
+            ("tolerance=1\ntake=0\n", "line=2\n"),
+            ("weight=24,0\nweight=0,1001\n", "refused=1,2\nrefused=2,2\nstatus=8\n"),
+            ("weight=24,0\nx\nweight=24,0\n", "refused=1,2\nline=2\n"),
+        ];
+        for (input, output) in cases {
+            assert_eq!(String::from_utf8_lossy(&output_of(input.as_bytes())), output, "{input:?}");
+        }
+    }
+}
