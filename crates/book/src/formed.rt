@@ -76,14 +76,21 @@ pub fn settings_formed(s: Settings) -> bool
         & take_formed(s.take_set, s.take_wh)
 }
 
-// Whether a row is well formed, with an MPAN above the one before it.
+// Whether a row is well formed, with an MPAN above the one before it. Nearly every row passes, and a branch that goes the same
+// way each time costs less than joining the outcomes of all tests.
 fn row_formed(before: u64, mpan: u64, registration: u64, reading: u64) -> bool
     ensures { λ r. ⌜ r ≡ (isRow (row mpan registration reading) && ltb before mpan) ⌝ }
 {
-    words::is_mpan(mpan)
-        & words::is_registration(registration)
-        & words::is_reading(reading)
-        & (before < mpan)
+    if !words::is_mpan(mpan) {
+        return false;
+    }
+    if !words::is_registration(registration) {
+        return false;
+    }
+    if !words::is_reading(reading) {
+        return false;
+    }
+    before < mpan
 }
 
 // Whether the first n rows are well formed and rise strictly.

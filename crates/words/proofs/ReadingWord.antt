@@ -1,18 +1,18 @@
 -- Word 2: what is packed is what is unpacked, and a word is well formed exactly if it is 0 or a reading in range and allowed has it.
-use Prim.Native.Nat.{ℕ, _%_, _^_, _≤_, _<_}
+use Prim.Native.Nat.{ℕ, _/_, _%_, _^_, _≤_, _<_}
 use mathlib.Core.Path.{_≡_, refl}
-use mathlib.Core.Bool.{true, _&&_, and-eq-true-iff}
+use mathlib.Core.Bool.{true, not, _&&_, _||_, and-eq-true-iff}
 use mathlib.Core.Logic.{_⊎_, inl, inr, ⊎-elim, _≢_}
 use native.Mathlib.Nat.{div-one, mod-eq-of-lt}
 use native.Mathlib.Omega.{arith}
-use lib.Dec.{eqb}
-use borrow.Author.Tests.{eqb-true, ne-eqb}
+use lib.Dec.{leb, eqb}
+use borrow.Author.Tests.{le-leb, lt-leb, leb-true, eq-eqb, ne-eqb, eqb-true, eqb-false, not-true}
 use Rattle.words.specs.declared.Reading.{Reading}
-use Rattle.words.specs.Limits.{consumptionMost, qualityMost}
+use Rattle.words.specs.Limits.{consumptionMost, qualityMost, issueLeast, issueMost}
 use Rattle.words.specs.Registration.{bitField}
 use Rattle.words.specs.Reading.{consumptionOf, qualityOf, issueOf, noReading, readingOf, readingWord, readingInRange, qualityAllowed, isReading}
 use Rattle.words.proofs.BitField.{join}
-use Rattle.words.proofs.Tests.{either}
+use Rattle.words.proofs.Tests.{by-test, either}
 use Rattle.words.proofs.Ranges.{ReadingBounds, reading-bounds}
 
 pub no-reading-well-formed : isReading noReading ≡ true
@@ -89,3 +89,32 @@ reading-word-bounds w ok =
     (λ none. omega arith)
     (λ s. omega (arith, stored-bounds w s))
     (reading-cases w ok)
+
+-- a word with an issue, energy in range and a code up to E6 with no bit above it is well formed, and so is the word of no reading
+module _ (w : ℕ) (fits : w < 2 ^ 64) (code : bitField w 24 8 ≤ 13) (wh : consumptionOf w ≤ consumptionMost) where
+  common-issued : w / 2 ^ 32 ≢ 0 → isReading w ≡ true
+  unfolding isReading readingInRange qualityAllowed readingOf
+  common-issued issued =
+      let zeros : bitField w 29 3 ≡ 0 = omega arith in
+      rw (
+        eq-eqb (bitField w 29 3) 0 zeros,
+        le-leb issueLeast (issueOf w) (omega arith),
+        le-leb (issueOf w) issueMost (omega arith),
+        le-leb (qualityOf w) qualityMost (omega arith),
+        le-leb (consumptionOf w) consumptionMost wh,
+        ne-eqb (qualityOf w) 14 (λ e. omega arith),
+        lt-leb 17 (qualityOf w) (omega arith),
+      )
+      (by-test (eqb w 0) (λ z. rw z) (λ z. rw z))
+
+  common : (not (eqb (w / 2 ^ 32) 0) || eqb w noReading) ≡ true → isReading w ≡ true
+  common some =
+      ⊎-elim
+      (λ issued. common-issued (eqb-false (w / 2 ^ 32) 0 (not-true _ issued)))
+      (λ none. rw (eqb-true w 0 none) no-reading-well-formed)
+      (either (not (eqb (w / 2 ^ 32) 0)) (eqb w noReading) some)
+
+pub common-reading : (w : ℕ) → w < 2 ^ 64 → (leb (bitField w 24 8) 13 && leb (consumptionOf w) consumptionMost && (not (eqb (w / 2 ^ 32) 0) || eqb w noReading)) ≡ true → isReading w ≡ true
+common-reading w fits h =
+    let k = simp and-eq-true-iff at h in
+    common w fits (leb-true (bitField w 24 8) 13 (k .0 .0)) (leb-true (consumptionOf w) consumptionMost (k .0 .1)) (k .1)

@@ -1,15 +1,16 @@
 -- Word 1: what is packed is what is unpacked, and a word is well formed exactly if a registration in range has it.
 use Prim.Native.Nat.{ℕ, _/_, _^_, _≤_, _<_}
 use mathlib.Core.Path.{_≡_}
-use mathlib.Core.Bool.{Bool, true, false, cond, and-eq-true-iff}
+use mathlib.Core.Bool.{Bool, true, false, cond, _&&_, _||_, and-eq-true-iff}
 use native.Mathlib.Nat.{div-one, mod-eq-of-lt}
 use native.Mathlib.Omega.{arith}
-use lib.Dec.{eqb}
-use borrow.Author.Tests.{eqb-true}
+use lib.Dec.{leb, eqb}
+use borrow.Author.Tests.{le-leb, leb-true, eq-eqb, ne-eqb, eqb-true, eqb-false}
 use Rattle.words.specs.declared.Registration.{Registration}
-use Rattle.words.specs.Limits.{unitMost}
-use Rattle.words.specs.Registration.{segmentOf, directionOf, statusOf, baseOf, flagOf, additionalOf, categoryOf, llfOf, unitOf, registrationOf, registrationWord, registrationInRange, isRegistration}
+use Rattle.words.specs.Limits.{segmentMost, directionMost, statusMost, unitMost, categoryMost, llfLeast, llfMost}
+use Rattle.words.specs.Registration.{segmentOf, directionOf, statusOf, baseOf, flagOf, additionalOf, categoryOf, llfOf, unitOf, registrationOf, registrationWord, registrationInRange, isRegistration, additionalInRange}
 use Rattle.words.proofs.BitField.{join}
+use Rattle.words.proofs.Tests.{by-test, same-test}
 use Rattle.words.proofs.Ranges.{RegistrationBounds, registration-bounds}
 
 -- the fields of a word are those of a registration
@@ -70,6 +71,10 @@ module _ (w : ℕ) (ok : isRegistration w ≡ true) where
   unfolding registrationOf
   well-formed-bounds = registration-bounds (registrationOf w) well-formed-in-range
 
+  well-formed-additional : additionalInRange (flagOf w) (additionalOf w) ≡ true
+  unfolding registrationInRange registrationOf
+  well-formed-additional = let k = simp and-eq-true-iff at well-formed-in-range in k .0 .0 .0 .1
+
   pub well-formed-word : registrationWord (registrationOf w) ≡ w
   unfolding registrationWord registrationOf
   well-formed-word =
@@ -84,3 +89,60 @@ unit-bound w = either-way (eqb (flagOf w) 1)
     either-way : (b : Bool) → cond b (additionalOf w) (baseOf w) ≤ unitMost
     either-way true = omega arith
     either-way false = omega arith
+
+-- with an additional number that fits its bits, the flag or a number of 0 is what is asked of the two
+additional-test : (flag additional : ℕ) → flag ≤ 1 → additional ≤ unitMost → (eqb flag 1 || eqb additional 0) ≡ additionalInRange flag additional
+additional-test flag additional one fits =
+    by-test (eqb flag 1)
+    (λ set.
+    let none : flag ≡ 0 → ⊥ = omega (arith, eqb-true flag 1 set) in
+    rw (set, ne-eqb flag 0 none, le-leb additional unitMost fits))
+    (λ unset.
+    let none : flag ≡ 0 = omega (arith, eqb-false flag 1 unset) in
+    by-test (eqb additional 0) (λ z. rw (unset, eq-eqb flag 0 none, z)) (λ z. rw (unset, eq-eqb flag 0 none, z)))
+
+module _ (w : ℕ) where
+  -- the tests of a word that can fail: the direction, the units and the category fill their bits, and a loss factor in range that is read with all higher bits says that these are 0
+  abbrev pub tests : Bool
+  tests =
+      leb (segmentOf w) segmentMost
+      && leb (statusOf w) statusMost
+      && (eqb (flagOf w) 1 || eqb (additionalOf w) 0)
+      && (leb llfLeast (w / 2 ^ 22) && leb (w / 2 ^ 22) llfMost)
+
+  tests-enough : tests ≡ true → isRegistration w ≡ true
+  unfolding isRegistration registrationInRange registrationOf
+  tests-enough h =
+      let k = simp and-eq-true-iff at h in
+      let most : w / 2 ^ 22 ≤ llfMost = leb-true (w / 2 ^ 22) llfMost (k .1 .1) in
+      let least : llfLeast ≤ w / 2 ^ 22 = leb-true llfLeast (w / 2 ^ 22) (k .1 .0) in
+      let top : w / 2 ^ 33 ≡ 0 = omega arith in
+      rw (
+        eq-eqb (w / 2 ^ 33) 0 top,
+        k .0 .0 .0,
+        k .0 .0 .1,
+        le-leb (directionOf w) directionMost (omega arith),
+        le-leb (baseOf w) unitMost (omega arith),
+        ← additional-test (flagOf w) (additionalOf w) (omega arith) (omega arith),
+        k .0 .1,
+        le-leb (categoryOf w) categoryMost (omega arith),
+        le-leb llfLeast (llfOf w) (omega arith),
+        le-leb (llfOf w) llfMost (omega arith),
+      )
+
+  pub registration-tests : tests ≡ isRegistration w
+  registration-tests = same-test tests (isRegistration w) tests-enough needed
+    where
+      needed : isRegistration w ≡ true → tests ≡ true
+      needed ok =
+          let b = well-formed-bounds w ok in
+          let short : w / 2 ^ 22 < 2 ^ 11 = omega (arith, well-formed-lt w ok) in
+          let whole : llfOf w ≡ w / 2 ^ 22 = mod-eq-of-lt short in
+          rw (
+            le-leb (segmentOf w) segmentMost (b .segment),
+            le-leb (statusOf w) statusMost (b .status),
+            additional-test (flagOf w) (additionalOf w) (omega arith) (omega arith),
+            well-formed-additional w ok,
+            le-leb llfLeast (w / 2 ^ 22) (rw whole at (b .llf-least)),
+            le-leb (w / 2 ^ 22) llfMost (rw whole at (b .llf-most)),
+          )

@@ -160,11 +160,16 @@ impl Registration {
     }
 }
 
-// Whether w is a well-formed word 1.
+// Whether w is a well-formed word 1. Every number that fits in the bits of the direction, of a unit or of the category is in range,
+// and a loss factor in range that is read with all higher bits says that these are 0.
 pub fn is_registration(w: u64) -> bool
     ensures { λ r. ⌜ r ≡ isRegistration w ⌝ }
 {
-    (w >> 33 == 0) & Registration::unpack(w).in_range()
+    let llf = w >> 22;
+    (segment(w) <= Registration::SEGMENT_MAX)
+        & (status(w) <= Registration::STATUS_MAX)
+        & ((bits(w, 10, 1) == 1) | (bits(w, 11, 5) == 0))
+        & ((Registration::LLF_MIN <= llf) & (llf <= Registration::LLF_MAX))
 }
 
 // The consumption in a reading's word, in Wh.
@@ -263,10 +268,19 @@ impl Reading {
     }
 }
 
-// Whether w is a well-formed word 2: no reading, or one that could have been stored.
+// Whether w is a well-formed word 2: no reading, or one that could have been stored. A test of all rows is mostly this test, so
+// the words of no reading and of the codes up to E6, with any energy, pass first; the other words are tested field by field.
 pub fn is_reading(w: u64) -> bool
     ensures { λ r. ⌜ r ≡ isReading w ⌝ }
 {
+    let code = bits(w, 24, 8);
+    let wh = bits(w, 0, 24);
+    if (code <= Reading::QUALITY_E6)
+        & (wh <= Reading::CONSUMPTION_MAX)
+        & ((w >> 32 != 0) | (w == NO_READING))
+    {
+        return true;
+    }
     let r = Reading::unpack(w);
     (w == NO_READING) | ((bits(w, 29, 3) == 0) & r.in_range() & r.allowed())
 }
