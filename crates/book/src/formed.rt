@@ -6,9 +6,11 @@ ghost use Prim.Native.Nat.{_*_, _≤_};
 ghost use lib.Dec.{ltb};
 ghost use lib.ListN.{length};
 ghost use Rattle.book.specs.Settings.{isWeight, isShape, isTolerance, isTake, takeFormed, allOf, settingsFormed};
-ghost use Rattle.book.specs.Rows.{isRow, rowsOf, rowsFormed};
+ghost use Rattle.words.specs.Registration.{isRegistration};
+ghost use Rattle.words.specs.Reading.{isReading};
+ghost use Rattle.book.specs.Rows.{rowsOf, rowsFormed};
 ghost use Rattle.book.specs.Book.{wellFormed};
-ghost use Rattle.book.specs.Contracts.{lent, row, within};
+ghost use Rattle.book.specs.Contracts.{lent, within};
 
 // A number of 32 bits at the full width.
 pub fn wide(x: u32) -> u64
@@ -76,40 +78,38 @@ pub fn settings_formed(s: Settings) -> bool
         & take_formed(s.take_set, s.take_wh)
 }
 
-// Whether a row is well formed, with an MPAN above the one before it. Nearly every row passes, and a branch that goes the same
-// way each time costs less than joining the outcomes of all tests.
-fn row_formed(before: u64, mpan: u64, registration: u64, reading: u64) -> bool
-    ensures { λ r. ⌜ r ≡ (isRow (row mpan registration reading) && ltb before mpan) ⌝ }
+// Whether a row stands above the one before it and its words 1 and 2 are well formed. Nearly every row passes, and a branch that
+// goes the same way each time costs less than joining the outcomes of all tests.
+fn row_rises(before: u64, mpan: u64, registration: u64, reading: u64) -> bool
+    ensures { λ r. ⌜ r ≡ (ltb before mpan && isRegistration registration && isReading reading) ⌝ }
 {
-    if !words::is_mpan(mpan) {
+    if mpan <= before {
         return false;
     }
     if !words::is_registration(registration) {
         return false;
     }
-    if !words::is_reading(reading) {
-        return false;
-    }
-    before < mpan
+    words::is_reading(reading)
 }
 
-// Whether the first n rows are well formed and rise strictly.
+// Whether the first n rows are well formed and rise strictly. Rows that rise from below the least MPAN up to one that is in range
+// are all in range.
 pub fn rows_formed(rows: &[u64], n: usize) -> bool
     requires { ⌜ 3 * n ≤ length (now rows) ⌝ }
     ensures { λ r. ⌜ r ≡ rowsFormed 0 (rowsOf n (now (rows .entry))) ⌝ }
 {
-    let mut before = 0;
+    let mut before = words::MPAN_MIN - 1;
     let mut i = 0;
     while i < n {
         let at = 3 * i;
         let mpan = rows[at];
-        if !row_formed(before, mpan, rows[at + 1], rows[at + 2]) {
+        if !row_rises(before, mpan, rows[at + 1], rows[at + 2]) {
             return false;
         }
         before = mpan;
         i += 1;
     }
-    true
+    before <= words::MPAN_MAX
 }
 
 // Whether the book that a call is lent is well formed.

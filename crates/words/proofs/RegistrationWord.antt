@@ -1,6 +1,6 @@
 -- Word 1: what is packed is what is unpacked, and a word is well formed exactly if a registration in range has it.
-use Prim.Native.Nat.{ℕ, _/_, _^_, _≤_, _<_}
-use mathlib.Core.Path.{_≡_}
+use Prim.Native.Nat.{ℕ, _+_, _*_, _/_, _%_, _^_, _≤_, _<_}
+use mathlib.Core.Path.{_≡_, refl, sym, _∙_}
 use mathlib.Core.Bool.{Bool, true, false, cond, _&&_, _||_, and-eq-true-iff}
 use native.Mathlib.Nat.{div-one, mod-eq-of-lt}
 use native.Mathlib.Omega.{arith}
@@ -8,9 +8,9 @@ use lib.Dec.{leb, eqb}
 use borrow.Author.Tests.{le-leb, leb-true, eq-eqb, ne-eqb, eqb-true, eqb-false}
 use Rattle.words.specs.declared.Registration.{Registration}
 use Rattle.words.specs.Limits.{segmentMost, directionMost, statusMost, unitMost, categoryMost, llfLeast, llfMost}
-use Rattle.words.specs.Registration.{segmentOf, directionOf, statusOf, baseOf, flagOf, additionalOf, categoryOf, llfOf, unitOf, registrationOf, registrationWord, registrationInRange, isRegistration, additionalInRange}
+use Rattle.words.specs.Registration.{bitField, segmentOf, directionOf, statusOf, baseOf, flagOf, additionalOf, categoryOf, llfOf, unitOf, registrationOf, registrationWord, registrationInRange, isRegistration, additionalInRange}
 use Rattle.words.proofs.BitField.{join}
-use Rattle.words.proofs.Tests.{by-test, same-test}
+use Rattle.words.proofs.Tests.{by-test, same-test, same, same-where, allBelow, all-below}
 use Rattle.words.proofs.Ranges.{RegistrationBounds, registration-bounds}
 
 -- the fields of a word are those of a registration
@@ -101,12 +101,32 @@ additional-test flag additional one fits =
     let none : flag ≡ 0 = omega (arith, eqb-false flag 1 unset) in
     by-test (eqb additional 0) (λ z. rw (unset, eq-eqb flag 0 none, z)) (λ z. rw (unset, eq-eqb flag 0 none, z)))
 
+-- every number below 32, tried: its bit of this number is set exactly if the segment and the status in it are in range
+low-tried : allBelow 32 (λ (x : ℕ). same (eqb (7829367 / 2 ^ x % 2) 1) (leb (x % 4) segmentMost && leb (x / 8) statusMost)) ≡ true
+unfolding allBelow same
+low-tried = refl
+
+low-fields : (x : ℕ) → x < 32 → eqb (7829367 / 2 ^ x % 2) 1 ≡ (leb (x % 4) segmentMost && leb (x / 8) statusMost)
+low-fields x h = same-where _ _ (all-below 32 _ low-tried x h)
+
+below-part : (a b x : ℕ) → a < 4 → a + b * 4 ≡ x → x % 4 ≡ a
+below-part a b x h e = omega arith
+
+above-part : (a b x : ℕ) → a < 8 → a + b * 8 ≡ x → x / 8 ≡ b
+above-part a b x h e = omega arith
+
 module _ (w : ℕ) where
-  -- the tests of a word that can fail: the direction, the units and the category fill their bits, and a loss factor in range that is read with all higher bits says that these are 0
+  low-test : eqb (7829367 / 2 ^ bitField w 0 5 % 2) 1 ≡ (leb (segmentOf w) segmentMost && leb (statusOf w) statusMost)
+  low-test =
+      let short : bitField w 0 5 < 32 = omega arith in
+      let segment : bitField w 0 5 % 4 ≡ segmentOf w = rw (div-one w) (below-part (w % 4) (bitField w 2 3) (w % 32) (omega arith) (join w 2 3)) in
+      let status : bitField w 0 5 / 8 ≡ statusOf w = rw (div-one w) (above-part (w % 8) (bitField w 3 2) (w % 32) (omega arith) (join w 3 2)) in
+      low-fields (bitField w 0 5) short ∙ rw (segment, status)
+
+  -- the tests of a word that can fail: the units and the category fill their bits, and a loss factor in range that is read with all higher bits says that these are 0
   abbrev pub tests : Bool
   tests =
-      leb (segmentOf w) segmentMost
-      && leb (statusOf w) statusMost
+      eqb (7829367 / 2 ^ bitField w 0 5 % 2) 1
       && (eqb (flagOf w) 1 || eqb (additionalOf w) 0)
       && (leb llfLeast (w / 2 ^ 22) && leb (w / 2 ^ 22) llfMost)
 
@@ -114,13 +134,14 @@ module _ (w : ℕ) where
   unfolding isRegistration registrationInRange registrationOf
   tests-enough h =
       let k = simp and-eq-true-iff at h in
+      let low = simp and-eq-true-iff at (sym low-test ∙ k .0 .0) in
       let most : w / 2 ^ 22 ≤ llfMost = leb-true (w / 2 ^ 22) llfMost (k .1 .1) in
       let least : llfLeast ≤ w / 2 ^ 22 = leb-true llfLeast (w / 2 ^ 22) (k .1 .0) in
       let top : w / 2 ^ 33 ≡ 0 = omega arith in
       rw (
         eq-eqb (w / 2 ^ 33) 0 top,
-        k .0 .0 .0,
-        k .0 .0 .1,
+        low .0,
+        low .1,
         le-leb (directionOf w) directionMost (omega arith),
         le-leb (baseOf w) unitMost (omega arith),
         ← additional-test (flagOf w) (additionalOf w) (omega arith) (omega arith),
@@ -139,6 +160,7 @@ module _ (w : ℕ) where
           let short : w / 2 ^ 22 < 2 ^ 11 = omega (arith, well-formed-lt w ok) in
           let whole : llfOf w ≡ w / 2 ^ 22 = mod-eq-of-lt short in
           rw (
+            low-test,
             le-leb (segmentOf w) segmentMost (b .segment),
             le-leb (statusOf w) statusMost (b .status),
             additional-test (flagOf w) (additionalOf w) (omega arith) (omega arith),

@@ -160,14 +160,16 @@ impl Registration {
     }
 }
 
-// Whether w is a well-formed word 1. Every number that fits in the bits of the direction, of a unit or of the category is in range,
-// and a loss factor in range that is read with all higher bits says that these are 0.
+// The numbers that the lowest five bits of word 1 may be: bit x is set if a segment, a direction and a status in range are x.
+const LOW_FIELDS: u64 = 7_829_367;
+
+// Whether w is a well-formed word 1. Every number that fits in the bits of a unit or of the category is in range, and a loss factor
+// in range that is read with all higher bits says that these are 0.
 pub fn is_registration(w: u64) -> bool
     ensures { λ r. ⌜ r ≡ isRegistration w ⌝ }
 {
     let llf = w >> 22;
-    (segment(w) <= Registration::SEGMENT_MAX)
-        & (status(w) <= Registration::STATUS_MAX)
+    ((LOW_FIELDS >> bits(w, 0, 5)) % 2 == 1)
         & ((bits(w, 10, 1) == 1) | (bits(w, 11, 5) == 0))
         & ((Registration::LLF_MIN <= llf) & (llf <= Registration::LLF_MAX))
 }

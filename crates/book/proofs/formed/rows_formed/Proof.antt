@@ -14,6 +14,9 @@ Inv-loop rows n before₀ i₀ before i = (i ≤ n) × RowsLeft rows n before i
 abbrev μ-loop : tie.MeasureT-loop
 μ-loop rows n before₀ i₀ before i = n - i
 
+sub-before : tie.Need-sub-before Inv-loop μ-loop
+sub-before c = search needs
+
 loop-holds : tie.Need-loop-holds Inv-loop μ-loop
 loop-holds c = (omega arith, all-rows-left _ _)
 
@@ -26,29 +29,29 @@ mul-mpan c = omega arith
 shared-slice-read-mpan : tie.Need-shared-slice-read-mpan Inv-loop μ-loop
 shared-slice-read-mpan c = omega arith
 
-add-row-formed : tie.Need-add-row-formed Inv-loop μ-loop
-add-row-formed c = omega arith
+add-row-rises : tie.Need-add-row-rises Inv-loop μ-loop
+add-row-rises c = omega arith
 
-mul-row-formed : tie.Need-mul-row-formed Inv-loop μ-loop
-mul-row-formed c = omega arith
+mul-row-rises : tie.Need-mul-row-rises Inv-loop μ-loop
+mul-row-rises c = omega arith
 
-shared-slice-read-row-formed : tie.Need-shared-slice-read-row-formed Inv-loop μ-loop
-shared-slice-read-row-formed c = omega arith
+shared-slice-read-row-rises : tie.Need-shared-slice-read-row-rises Inv-loop μ-loop
+shared-slice-read-row-rises c = omega arith
 
-add-row-formed-2 : tie.Need-add-row-formed-2 Inv-loop μ-loop
-add-row-formed-2 c = omega arith
+add-row-rises-2 : tie.Need-add-row-rises-2 Inv-loop μ-loop
+add-row-rises-2 c = omega arith
 
-mul-row-formed-2 : tie.Need-mul-row-formed-2 Inv-loop μ-loop
-mul-row-formed-2 c = omega arith
+mul-row-rises-2 : tie.Need-mul-row-rises-2 Inv-loop μ-loop
+mul-row-rises-2 c = omega arith
 
-shared-slice-read-row-formed-2 : tie.Need-shared-slice-read-row-formed-2 Inv-loop μ-loop
-shared-slice-read-row-formed-2 c = omega arith
+shared-slice-read-row-rises-2 : tie.Need-shared-slice-read-row-rises-2 Inv-loop μ-loop
+shared-slice-read-row-rises-2 c = omega arith
 
-row-formed-requires : tie.Need-row-formed-requires Inv-loop μ-loop
-row-formed-requires c κs = search needs
+row-rises-requires : tie.Need-row-rises-requires Inv-loop μ-loop
+row-rises-requires c κs = search needs
 
 returns : tie.Need-returns Inv-loop μ-loop
-returns c = row-fails _ _ _ _ (omega arith) (c .before .before .before .before .before .before .loop .inv .1) (sym (c .before .row-formed .ensures) ∙ not-true _ (c .if1 .taken))
+returns c = row-fails _ _ _ _ (omega arith) (c .before .before .before .before .before .before .loop .inv .1) (sym (c .before .row-rises .ensures) ∙ not-true _ (c .if1 .taken))
 
 add-i : tie.Need-add-i Inv-loop μ-loop
 add-i c = omega arith
@@ -59,7 +62,7 @@ loop-less c = omega arith
 loop-again : tie.Need-loop-again Inv-loop μ-loop
 loop-again c = (
   omega arith,
-  row-passes _ _ _ _ (omega arith) (c .before .before .before .before .before .before .loop .inv .1) (sym (c .before .row-formed .ensures) ∙ not-false _ (c .if1 .left)),
+  row-passes _ _ _ _ (omega arith) (c .before .before .before .before .before .before .loop .inv .1) (sym (c .before .row-rises .ensures) ∙ not-false _ (c .if1 .left)),
 )
 
 returns-2 : tie.Need-returns-2 Inv-loop μ-loop
@@ -71,17 +74,18 @@ rows-formed-spec =
     (tie.spec
     Inv-loop
     μ-loop
+    sub-before
     loop-holds
     mul-at
     mul-mpan
     shared-slice-read-mpan
-    add-row-formed
-    mul-row-formed
-    shared-slice-read-row-formed
-    add-row-formed-2
-    mul-row-formed-2
-    shared-slice-read-row-formed-2
-    row-formed-requires
+    add-row-rises
+    mul-row-rises
+    shared-slice-read-row-rises
+    add-row-rises-2
+    mul-row-rises-2
+    shared-slice-read-row-rises-2
+    row-rises-requires
     returns
     add-i
     loop-less
