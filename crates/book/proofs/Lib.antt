@@ -12,3 +12,5 @@ pub mod WithReading
 pub mod RegisterCall
 pub mod ReadingCall
 pub mod Parts
+pub mod BookFormed
+pub mod CallFormed

@@ -15,19 +15,19 @@ use Rattle.book.proofs.PlaceOf.{by-mpan, place-next, place-here, known-
 use Rattle.book.proofs.Written.{written-reading}
 
 module _ (r : Row) (rows : List Row) (m : ℕ) where
-  stored-next : (w : ℕ) → (r .mpan ≡ m → ⊥) → withReading m w (r ∷ rows) ≡ r ∷ withReading m w rows
+  pub stored-next : (w : ℕ) → (r .mpan ≡ m → ⊥) → withReading m w (r ∷ rows) ≡ r ∷ withReading m w rows
   unfolding withReading
   stored-next w h = rw (ne-eqb (r .mpan) m h)
 
-  stored-here : (w : ℕ) → r .mpan ≡ m → withReading m w (r ∷ rows) ≡ record { mpan = m; registration = r .registration; reading = w } ∷ rows
+  pub stored-here : (w : ℕ) → r .mpan ≡ m → withReading m w (r ∷ rows) ≡ record { mpan = m; registration = r .registration; reading = w } ∷ rows
   unfolding withReading
   stored-here w h = rw (eq-eqb (r .mpan) m h)
 
-  issue-next : (r .mpan ≡ m → ⊥) → issueHeld m (r ∷ rows) ≡ issueHeld m rows
+  pub issue-next : (r .mpan ≡ m → ⊥) → issueHeld m (r ∷ rows) ≡ issueHeld m rows
   unfolding issueHeld
   issue-next h = rw (ne-eqb (r .mpan) m h)
 
-  issue-here : r .mpan ≡ m → issueHeld m (r ∷ rows) ≡ issueOf (r .reading)
+  pub issue-here : r .mpan ≡ m → issueHeld m (r ∷ rows) ≡ issueOf (r .reading)
   unfolding issueHeld
   issue-here h = rw (eq-eqb (r .mpan) m h)
 

@@ -17,15 +17,15 @@ use Rattle.book.proofs.PlaceOf.{by-mpan, place-next, place-here, known-
 use Rattle.book.proofs.Written.{written-inserted, written-registration}
 
 module _ (r : Row) (rows : List Row) (m w : ℕ) where
-  stored-next : r .mpan < m → withRegistration m w (r ∷ rows) ≡ r ∷ withRegistration m w rows
+  pub stored-next : r .mpan < m → withRegistration m w (r ∷ rows) ≡ r ∷ withRegistration m w rows
   unfolding withRegistration
   stored-next h = rw (lt-ltb (r .mpan) m h)
 
-  stored-here : r .mpan ≡ m → withRegistration m w (r ∷ rows) ≡ record { mpan = m; registration = w; reading = r .reading } ∷ rows
+  pub stored-here : r .mpan ≡ m → withRegistration m w (r ∷ rows) ≡ record { mpan = m; registration = w; reading = r .reading } ∷ rows
   unfolding withRegistration
   stored-here h = rw (le-ltb (r .mpan) m (omega arith), eq-eqb (r .mpan) m h)
 
-  stored-before : m < r .mpan → withRegistration m w (r ∷ rows) ≡ newRow m w ∷ r ∷ rows
+  pub stored-before : m < r .mpan → withRegistration m w (r ∷ rows) ≡ newRow m w ∷ r ∷ rows
   unfolding withRegistration
   stored-before h = rw (le-ltb (r .mpan) m (omega arith), ne-eqb (r .mpan) m (λ e. omega arith))
 

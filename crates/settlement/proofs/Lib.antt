@@ -10,8 +10,6 @@ pub mod MeantSettings
 pub mod MeantMeters
 -- the same in the book
 pub mod Stored
-pub mod Formed
-pub mod CallFormed
 pub mod Means
 pub mod SettingStep
 pub mod RegisterStep
@@ -19,6 +17,7 @@ pub mod ReadingStep
 -- the calls of a slice
 pub mod CallOf
 pub mod ListMade
+pub mod MadeApart
 -- whole lists
 pub mod Meant
 pub mod Moved

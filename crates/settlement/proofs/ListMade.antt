@@ -18,7 +18,7 @@ use Rattle.book.specs.Calls.{Call, callOutcome, bookAfter, numbersGiven}
 use Rattle.book.specs.Contracts.{lent, Gives, Stores, Sets}
 use Rattle.book.proofs.Parts.{rest-part}
 use Rattle.settlement.specs.Listed.{callWords, callOf, callsFrom, listMisshapen, listCause, listOutcome, listCall, ListGives}
-use Rattle.settlement.proofs.CallFormed.{call-formed, book-left, numbers-ill-formed}
+use Rattle.book.proofs.CallFormed.{call-formed, book-left, numbers-ill-formed}
 
 -- a list after another
 pub book-after-append : (b : Book) (calls more : List Call) → bookAfter b (calls ++ more) ≡ bookAfter (bookAfter b calls) more

@@ -18,7 +18,7 @@ use Rattle.settlement.specs.Demand.{isIn}
 use Rattle.settlement.proofs.Lists.{in-permuted}
 use Rattle.settlement.proofs.MeantSettings.{settings-kept}
 use Rattle.settlement.proofs.Stored.{mpanOf, known-in, GivenBy, issue-given}
-use Rattle.settlement.proofs.Formed.{capacity-same, rows-stored-formed}
+use Rattle.book.proofs.BookFormed.{capacity-same, rows-stored-formed}
 
 -- the book b, on a slice as long as `words`, is well formed and is what the list means
 pub record Means (words : List ℕ) (b : Book) (calls : List Call) : Type 0 where

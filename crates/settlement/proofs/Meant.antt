@@ -12,7 +12,7 @@ use Rattle.allocation.proofs.Permuted.{none}
 use Rattle.settlement.specs.Meaning.{gather, mpanRegistered, different, meantMpans, meantMeters}
 use Rattle.settlement.proofs.Different.{different-apart, take-apart, apart-different}
 use Rattle.settlement.proofs.MeantSettings.{settings-fresh}
-use Rattle.settlement.proofs.Formed.{fresh-formed}
+use Rattle.book.proofs.BookFormed.{fresh-formed}
 use Rattle.settlement.proofs.Means.{Means}
 use Rattle.settlement.proofs.SettingStep.{setting-step}
 use Rattle.settlement.proofs.RegisterStep.{register-step}

@@ -24,7 +24,7 @@ use Rattle.settlement.proofs.Counted.{isRegistered, registered-in}
 use Rattle.settlement.proofs.MeantSettings.{mpans-kept}
 use Rattle.settlement.proofs.MeantMeters.{meters-kept, reading-refused, read-other, read-itself, others-read}
 use Rattle.settlement.proofs.Stored.{atMeter, readAs, changed-here, changed-not, reading-mapped}
-use Rattle.settlement.proofs.CallFormed.{read-rows-formed, read-rows-fit}
+use Rattle.book.proofs.CallFormed.{read-rows-formed, read-rows-fit}
 use Rattle.settlement.proofs.Means.{Means, known-meant, issue-meant, refused-means, rows-means}
 
 module _ (words : List ℕ) (b : Book) (calls : List Call) (means : Means words b calls) (m : ℕ) (r : Reading) where

@@ -23,7 +23,7 @@ use Rattle.settlement.proofs.Counted.{registered-in, counted-none}
 use Rattle.settlement.proofs.MeantSettings.{mpans-kept}
 use Rattle.settlement.proofs.MeantMeters.{meters-kept, registration-refused, registered-other, registered-itself, others-registered}
 use Rattle.settlement.proofs.Stored.{atMeter, registeredAs, changed-here, changed-not, registration-mapped, registration-added}
-use Rattle.settlement.proofs.CallFormed.{registered-rows-formed, known-row-fits, new-row-fits}
+use Rattle.book.proofs.CallFormed.{registered-rows-formed, known-row-fits, new-row-fits}
 use Rattle.settlement.proofs.Means.{Means, known-meant, room-left, no-room-left, refused-means, rows-means}
 
 module _ (words : List ℕ) (b : Book) (calls : List Call) (means : Means words b calls) (m : ℕ) (r : Registration) where

@@ -10,7 +10,7 @@ use Rattle.book.specs.Calls.{Setting, Call, setting, outcome, settingInRange, w
 use Rattle.settlement.specs.Meaning.{only, settingSet, mpanRegistered}
 use Rattle.settlement.proofs.MeantSettings.{mpans-kept, settings-set}
 use Rattle.settlement.proofs.MeantMeters.{meters-kept, set-kept}
-use Rattle.settlement.proofs.Formed.{count-kept, set-formed}
+use Rattle.book.proofs.BookFormed.{count-kept, set-formed}
 use Rattle.settlement.proofs.Means.{Means, refused-means}
 
 module _ (words : List ℕ) (b : Book) (calls : List Call) (means : Means words b calls) (x : Setting) where

@@ -25,7 +25,7 @@ use Rattle.allocation.proofs.Counted.{counts-total}
 use Rattle.allocation.proofs.Outcome.{sumsOf, number-given, accepted-answer, accepted-volumes, accepted-total, accepted-distance}
 use Rattle.settlement.specs.Meaning.{meantTake, meantMpans, meantMeters, meantSettings}
 use Rattle.settlement.specs.Demand.{allocationAfter, meantSums, meantNumerators, MovedReadings, countsAnswered, Demand3}
-use Rattle.settlement.proofs.Formed.{capacity-same}
+use Rattle.book.proofs.BookFormed.{capacity-same}
 use Rattle.settlement.proofs.Means.{Means, length-meters}
 use Rattle.settlement.proofs.Meant.{list-meant}
 use Rattle.settlement.proofs.Moved.{moved-settings, moved-meters}

@@ -10,8 +10,10 @@ use book::replace::replace_shape;
 use book::replace::replace_take;
 use book::replace::replace_tolerance;
 use book::replace::replace_weight;
-use book::store::store_reading;
-use book::store::store_registration;
+use two_parts::calls::reading_apart;
+use two_parts::calls::register_apart;
+use two_parts::merge::merge_parts;
+use two_parts::merge::with_room;
 use words::Reading;
 use words::Registration;
 ghost use mathlib.Core.Path.{_≡_};
@@ -22,7 +24,8 @@ ghost use lib.ListN.{length, drop, replicate};
 ghost use Rattle.book.specs.Book.{wellFormed};
 ghost use Rattle.book.specs.Causes.{accepted};
 ghost use Rattle.book.specs.Calls.{callOutcome};
-ghost use Rattle.book.specs.Contracts.{lent, RowsReady, Stores, Sets};
+ghost use Rattle.book.specs.Contracts.{lent, Sets};
+ghost use Rattle.two_parts.specs.TwoParts.{PartsReady, StoresApart};
 ghost use Rattle.settlement.specs.Listed.{callWords, signedOf, registrationIn, readingIn, callOf, writesRows, listOutcome, listCall, ListGives};
 
 pub const CALL_WORDS: usize = 10;
@@ -102,17 +105,21 @@ fn reading_of(call: &[u64]) -> Reading
     }
 }
 
-// Makes a register or reading call on the rows of a book that was tested before.
-fn row_call(meters: usize, rows: &mut [u64], call: &[u64]) -> Stored
-    requires { ⌜ RowsReady meters (now rows) ⌝ ∗ ⌜ callWords ≤ length (now call) ⌝ ∗ ⌜ writesRows (now call) ≡ true ⌝ }
-    ensures { λ r. ⌜ Stores (λ b. callOutcome b (callOf (now (call .entry)))) meters (now (rows .entry)) (r .number) (r .meters) (now (rows .exit)) ⌝ }
+// Makes a register or reading call on the rows of a book that was tested before. They stand in two parts; the answer's meters
+// are those of the second part.
+fn row_call(first: usize, later: usize, rows: &mut [u64], call: &[u64]) -> Stored
+    requires { ⌜ PartsReady first later (now rows) ⌝ ∗ ⌜ callWords ≤ length (now call) ⌝ ∗ ⌜ writesRows (now call) ≡ true ⌝ }
+    ensures { λ r. ⌜ StoresApart (λ b. callOutcome b (callOf (now (call .entry)))) first later (now (rows .entry)) (r .number) (r .meters) (now (rows .exit)) ⌝ }
 {
     let mpan = call[1];
     if call[0] == REGISTER {
-        return store_registration(meters, rows, mpan, registration_of(call));
+        return register_apart(first, later, rows, mpan, registration_of(call));
     }
-    let number = store_reading(meters, rows, mpan, reading_of(call));
-    Stored { number, meters }
+    let number = reading_apart(first, later, rows, mpan, reading_of(call));
+    Stored {
+        number,
+        meters: later,
+    }
 }
 
 // Makes any other call on the settings of a book that was tested before. An unknown kind is an argument out of range.
@@ -141,7 +148,9 @@ fn setting_call(settings: Settings, call: &[u64]) -> Answer
 }
 
 // Makes each call of a list in turn, on a book that was tested before: accepted calls keep it well formed, so no call tests it again.
-// A register or reading call changes no setting but the number of meters, so the settings are not copied for it.
+// A register or reading call changes no setting but the number of meters, so the settings are not copied for it. A new meter's row
+// goes among the few of the second part, which are merged into the first `first` rows when they are too many and at the end: to
+// insert each in its place among all of them would move half of them on average.
 fn make_each(settings: Settings, rows: &mut [u64], calls: &[u64], numbers: &mut [u64]) -> Answer
     requires { ⌜ wellFormed (lent settings (now rows)) ≡ true ⌝ ∗ ⌜ length (now calls) / callWords ≤ length (now numbers) ⌝ }
     ensures { λ r.
@@ -149,14 +158,17 @@ fn make_each(settings: Settings, rows: &mut [u64], calls: &[u64], numbers: &mut 
 {
     let count = calls.len() / CALL_WORDS;
     let mut made = settings;
+    let mut first = made.meters;
     let mut i = 0;
     while i < count {
         let at = CALL_WORDS * i;
         let kind = calls[at];
         if (kind == REGISTER) | (kind == READING) {
-            let stored = row_call(made.meters, rows, &calls[at..]);
-            made.meters = stored.meters;
+            first = with_room(rows, first, made.meters);
+            let later = made.meters - first;
+            let stored = row_call(first, later, rows, &calls[at..]);
             numbers[i] = stored.number;
+            made.meters = first + stored.meters;
         } else {
             let answer = setting_call(made, &calls[at..]);
             numbers[i] = answer.number;
@@ -164,6 +176,7 @@ fn make_each(settings: Settings, rows: &mut [u64], calls: &[u64], numbers: &mut 
         }
         i += 1;
     }
+    merge_parts(rows, first, made.meters - first);
     Answer {
         number: ACCEPTED,
         settings: made,

@@ -5,24 +5,25 @@ use mathlib.Core.List.{List}
 use mathlib.Core.Logic.{⊎-elim}
 use native.Mathlib.Omega.{arith}
 use lib.ListN.{length, getD, take, drop, length-set}
+use Rattle.book.specs.Rows.{capacity}
 use Rattle.book.specs.Contracts.{lent}
-use Rattle.book.proofs.WellFormed.{rows-ready}
 use Rattle.settlement.specs.Listed.{callWords}
-use Rattle.settlement.proofs.ListMade.{Made, none-made, part-long, part-kind, row-call-made, setting-call-made, list-made}
+use Rattle.settlement.proofs.ListMade.{part-long, part-kind}
+use Rattle.settlement.proofs.MadeApart.{MadeApart, none-made-apart, row-call-apart, setting-call-apart, list-made-apart}
 use Rattle.settlement.proofs.list.make_each.Statement.{statement}
 use Rattle.settlement.proofs.list.make_each.Tie as tie
 
 abbrev Inv-loop : tie.InvT-loop
-Inv-loop rows₀ calls numbers₀ count made₀ i₀ rows numbers made i =
-    (i ≤ count) × (length rows ≡ length rows₀) × (length numbers ≡ length numbers₀) × Made (lent made₀ rows₀) calls numbers₀ i (lent made rows) numbers
+Inv-loop rows₀ calls numbers₀ count made₀ first₀ i₀ rows numbers made first i =
+    (i ≤ count) × (length rows ≡ length rows₀) × (length numbers ≡ length numbers₀) × MadeApart (lent made₀ rows₀) calls numbers₀ i made first rows numbers
 
 abbrev μ-loop : tie.MeasureT-loop
-μ-loop rows₀ calls numbers₀ count made₀ i₀ rows numbers made i = count - i
+μ-loop rows₀ calls numbers₀ count made₀ first₀ i₀ rows numbers made first i = count - i
 
 loop-holds : tie.Need-loop-holds Inv-loop μ-loop
 loop-holds c =
     let s = c .before .before .before in
-    (omega arith, omega arith, omega arith, none-made _ _ _ (s .pre .0))
+    (omega arith, omega arith, omega arith, none-made-apart _ _ _ _ (s .pre .0))
 
 mul-at : tie.Need-mul-at Inv-loop μ-loop
 mul-at c = omega arith
@@ -32,6 +33,14 @@ mul-kind c = omega arith
 
 shared-slice-read-kind : tie.Need-shared-slice-read-kind Inv-loop μ-loop
 shared-slice-read-kind c = omega arith
+
+with-room-requires : tie.Need-with-room-requires Inv-loop μ-loop
+with-room-requires c κs =
+    let m = c .before .before .before .before .loop .inv .3 in
+    (m .within, (m .short, m .ready))
+
+sub-later : tie.Need-sub-later Inv-loop μ-loop
+sub-later c = c .before .before .before .with-room .ensures .within
 
 mul-row-call : tie.Need-mul-row-call Inv-loop μ-loop
 mul-row-call c = omega arith
@@ -57,14 +66,19 @@ kind-there c = part-kind (calls-of c) (c .before .loop .i)
 
 row-call-requires : tie.Need-row-call-requires Inv-loop μ-loop
 row-call-requires c κs =
-    let turn = c .before .before .before .before in
-    (rows-ready _ _ (turn .before .loop .inv .3 .formed), (first-call turn, rw (kind-there turn) (c .before .before .if1 .taken)))
+    let roomy = c .before .before .before .before .before in
+    let turn = roomy .before .before .before .before in
+    (roomy .with-room .ensures .ready, (first-call turn, rw (kind-there turn) (roomy .before .before .if1 .taken)))
 
 mul-numbers : tie.Need-mul-numbers Inv-loop μ-loop
 mul-numbers c = omega arith
 
 slice-write-numbers : tie.Need-slice-write-numbers Inv-loop μ-loop
 slice-write-numbers c = omega arith
+
+add-made : tie.Need-add-made Inv-loop μ-loop
+unfolding capacity
+add-made c = omega (arith, c .before .before .before .row-call .ensures .ready .within-capacity)
 
 mul-setting-call : tie.Need-mul-setting-call Inv-loop μ-loop
 mul-setting-call c = omega arith
@@ -99,31 +113,40 @@ loop-again : tie.Need-loop-again Inv-loop μ-loop
 loop-again c =
     let head = c .before .before .before .loop in
     ⊎-elim
-    (λ w. rw (w .6, w .7, w .8) (
+    (λ w. rw (w .12, w .13, w .14, w .15) (
       omega arith,
-      w .3 .kept .1 .0 ∙ head .inv .1,
+      w .8 .kept .1 .1 .0 ∙ w .2 .kept .0 ∙ head .inv .1,
       simp length-set (head .inv .2),
-      row-call-made (head .inv .3) (omega arith) (w .3 .ensures),
+      row-call-apart (head .inv .3) (omega arith) (w .2 .ensures) (w .8 .ensures),
     ))
-    (λ w. rw (w .4, w .5, w .6) (
+    (λ w. rw (w .4, w .5, w .6, w .7) (
       omega arith,
       head .inv .1,
       simp length-set (head .inv .2),
-      setting-call-made (head .inv .3) (omega arith) (w .2 .ensures),
+      setting-call-apart (head .inv .3) (omega arith) (rw (kind-there (c .before .before)) (w .0 .left)) (w .2 .ensures),
     ))
     (c .if1 .came)
 
+sub-merge-parts : tie.Need-sub-merge-parts Inv-loop μ-loop
+sub-merge-parts c = c .before .before .before .loop .inv .3 .within
+
+merge-parts-requires : tie.Need-merge-parts-requires Inv-loop μ-loop
+merge-parts-requires c κs =
+    let m = c .before .before .before .loop .inv .3 in
+    (m .ready, m .short)
+
 same-length : tie.Need-same-length Inv-loop μ-loop
-same-length c = c .before .loop .inv .1
+same-length c = c .before .before .merge-parts .kept .0 ∙ c .before .before .before .before .before .before .loop .inv .1
 
 same-length-2 : tie.Need-same-length-2 Inv-loop μ-loop
-same-length-2 c = c .before .loop .inv .2
+same-length-2 c = c .before .before .before .before .before .before .loop .inv .2
 
 returns : tie.Need-returns Inv-loop μ-loop
 returns c =
-    let s = c .before .before .before .before .before in
-    let all : c .before .loop .i ≡ length (s .args .calls .now) / callWords = omega arith in
-    list-made _ _ _ _ (rw all at (c .before .loop .inv .3))
+    let head = c .before .before .before .before .before .before in
+    let s = head .before .before .before .before in
+    let all : head .loop .i ≡ length (s .args .calls .now) / callWords = omega arith in
+    list-made-apart _ _ _ _ (rw all at (head .loop .inv .3)) (c .before .before .merge-parts .ensures)
 
 pub make-each-spec : {M : Type 1} → statement M
 make-each-spec =
@@ -135,6 +158,8 @@ make-each-spec =
     mul-at
     mul-kind
     shared-slice-read-kind
+    with-room-requires
+    sub-later
     mul-row-call
     sub-row-call
     part-row-call-start
@@ -142,6 +167,7 @@ make-each-spec =
     row-call-requires
     mul-numbers
     slice-write-numbers
+    add-made
     mul-setting-call
     sub-setting-call
     part-setting-call-start
@@ -152,6 +178,8 @@ make-each-spec =
     add-i
     loop-less
     loop-again
+    sub-merge-parts
+    merge-parts-requires
     same-length
     same-length-2
     returns)

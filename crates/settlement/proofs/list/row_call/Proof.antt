@@ -1,4 +1,4 @@
--- `row_call` leaves what the call of its kind leaves on a well-formed book, with the arguments that stand after the kind. Assumes nothing.
+-- `row_call` leaves what the call of its kind leaves on the parts merged, with the arguments that stand after the kind. Assumes nothing.
 use borrow.Author.Needs.{needs}
 use Rattle.settlement.proofs.CallOf.{call-register, call-reading, reading-kind, stores-register, stores-reading}
 use Rattle.settlement.proofs.list.row_call.Statement.{statement}
@@ -13,8 +13,8 @@ shared-slice-read-if1 c = search needs
 registration-of-requires : tie.Need-registration-of-requires
 registration-of-requires c κs = search needs
 
-store-registration-requires : tie.Need-store-registration-requires
-store-registration-requires c κs = search needs
+register-apart-requires : tie.Need-register-apart-requires
+register-apart-requires c κs = search needs
 
 same-length : tie.Need-same-length
 same-length c = search needs
@@ -26,13 +26,13 @@ returns c =
     stores-register (taken .before .before .before .before .before .args .call .now)
     (call-register _ (taken .if1 .taken))
     (stored .before .registration-of .ensures)
-    (stored .store-registration .ensures)
+    (stored .register-apart .ensures)
 
 reading-of-requires : tie.Need-reading-of-requires
 reading-of-requires c κs = search needs
 
-store-reading-requires : tie.Need-store-reading-requires
-store-reading-requires c κs = search needs
+reading-apart-requires : tie.Need-reading-apart-requires
+reading-apart-requires c κs = search needs
 
 same-length-2 : tie.Need-same-length-2
 same-length-2 c = search needs
@@ -45,7 +45,7 @@ returns-2 c =
     stores-reading (s .args .call .now)
     (call-reading _ (reading-kind (s .args .call .now) (s .pre .1 .1) (left .if1 .left)))
     (stored .before .reading-of .ensures)
-    (stored .store-reading .ensures)
+    (stored .reading-apart .ensures)
 
 pub row-call-spec : {M : Type 1} → statement M
 row-call-spec =
@@ -54,10 +54,10 @@ row-call-spec =
     shared-slice-read-mpan
     shared-slice-read-if1
     registration-of-requires
-    store-registration-requires
+    register-apart-requires
     same-length
     returns
     reading-of-requires
-    store-reading-requires
+    reading-apart-requires
     same-length-2
     returns-2)

@@ -16,19 +16,19 @@ use Rattle.words.specs.Reading.{readingInRange, qualityAllowed, readingWord}
 use Rattle.words.proofs.RegistrationWord.{registration-word-well-formed}
 use Rattle.words.proofs.ReadingWord.{reading-word-well-formed}
 use Rattle.words.proofs.Tests.{by-test}
 use Rattle.book.specs.Rows.{capacity, rowsFormed, isKnown, issueHeld, withRegistration, withReading}
 use Rattle.book.specs.Book.{Book, usedRows, wellFormed}
 use Rattle.book.specs.Causes.{bookIllFormed}
 use Rattle.book.specs.Calls.{Setting, Call, register, reading, setting, outcome, settingInRange, registerInRange, readingCallInRange, registerCause, readingCause, settingCause, settingCall, registerCall, readingCall, callOutcome, bookAfter, numbersGiven}
 use Rattle.book.proofs.RowsOf.{length-rows}
 use Rattle.book.proofs.WellFormed.{formed-book}
 use Rattle.book.proofs.WithRegistration.{length-inserted, length-replaced, registration-formed}
 use Rattle.book.proofs.WithReading.{length-reading, reading-formed}
 use Rattle.book.proofs.RegisterCall.{register-out-of-range, register-no-room, register-known, register-new}
 use Rattle.book.proofs.ReadingCall.{reading-out-of-range, reading-of-refused-quality, reading-of-unknown-meter, reading-not-above, reading-above}
-use Rattle.settlement.proofs.Formed.{set-formed, rows-stored-formed}
+use Rattle.book.proofs.BookFormed.{set-formed, rows-stored-formed}
 
-above-nothing : (m : ℕ) → isMpan m ≡ true → 0 < m
+pub above-nothing : (m : ℕ) → isMpan m ≡ true → 0 < m
 unfolding isMpan
 above-nothing m h =
     let least = leb-true mpanLeast m (and-eq-true-iff (leb mpanLeast m) (leb m mpanMost) .0 h .0) in

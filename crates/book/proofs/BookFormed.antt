@@ -48,7 +48,7 @@ setting-formed (groupTake wh) s h f =
     (record { weights-formed = p .weights-formed; shapes-formed = p .shapes-formed; tolerance-formed = p .tolerance-formed; take-formed = h })
 
 -- another number of meters
-meters-formed : (n : ℕ) (s : Settings) → settingsFormed s ≡ true → settingsFormed (withMeters n s) ≡ true
+pub meters-formed : (n : ℕ) (s : Settings) → settingsFormed s ≡ true → settingsFormed (withMeters n s) ≡ true
 unfolding settingsFormed
 meters-formed n s f = f
 
