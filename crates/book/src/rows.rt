@@ -44,13 +44,17 @@ fn search_key(m: u64) -> u64
 
 // How many of the first n rows, which rise, have an MPAN below m: where m's row stands or is to stand.
 // That number is at least `low` and at most `low + left`. Each turn halves `left`, whichever way the row
-// in the middle compares, so the number of turns depends on n alone.
+// in the middle compares, so the number of turns depends on n alone. A list of calls is often in order of MPAN, so the end is
+// tried first.
 fn lower_bound(rows: &[u64], n: usize, m: u64) -> usize
     requires { ⌜ 3 * n ≤ length (now rows) ⌝ ∗ ⌜ rowsFormed 0 (rowsOf n (now rows)) ≡ true ⌝ }
     ensures { λ r. ⌜ r ≡ placeOf m (rowsOf n (now (rows .entry))) ⌝ }
 {
     if n == 0 {
         return 0;
+    }
+    if rows[3 * (n - 1)] < m {
+        return n;
     }
     let key = search_key(m);
     let mut low = 0;

@@ -1,5 +1,5 @@
 -- `lower_bound` is the place of m: it is at least `low` and at most `low + left`, and `left` comes down to 1. Assumes nothing.
-use Prim.Native.Nat.{ℕ, _+_, _*_, _/_, _^_, _≤_, _<_, min}
+use Prim.Native.Nat.{ℕ, _+_, _*_, _-_, _/_, _^_, _≤_, _<_, min}
 use mathlib.Core.Path.{_≡_, refl}
 use mathlib.Core.Logic.{_⊎_, inl, inr, ⊎-elim}
 use mathlib.Core.Bool.{Bool, true, false, cond}
@@ -45,12 +45,32 @@ returns c =
     let args = c .before .before .args in
     omega (arith, place-within-in (args .rows .now) (args .n) (args .m))
 
+sub-if2 : tie.Need-sub-if2 Inv-loop μ-loop
+sub-if2 c = omega arith
+
+mul-if2 : tie.Need-mul-if2 Inv-loop μ-loop
+mul-if2 c = omega arith
+
+mul-if2-2 : tie.Need-mul-if2-2 Inv-loop μ-loop
+mul-if2-2 c = omega arith
+
+shared-slice-read-if2 : tie.Need-shared-slice-read-if2 Inv-loop μ-loop
+shared-slice-read-if2 c = omega arith
+
+-- the last row stands before the place, so all do
+returns-2 : tie.Need-returns-2 Inv-loop μ-loop
+returns-2 c =
+    let start = c .before .before .before .before in
+    let args = start .args in
+    let last = before-place-in (args .rows .now) (args .n) (args .n - 1) (omega arith) (args .m) (start .pre .1) (c .if2 .taken) in
+    omega (arith, last, place-within-in (args .rows .now) (args .n) (args .m))
+
 search-key-requires : tie.Need-search-key-requires Inv-loop μ-loop
 search-key-requires c κs = search needs
 
 loop-holds : tie.Need-loop-holds Inv-loop μ-loop
 loop-holds c =
-    let args = c .before .before .before .args in
+    let args = c .before .before .before .before .before .args in
     omega (arith, place-within-in (args .rows .now) (args .n) (args .m))
 
 add-row : tie.Need-add-row Inv-loop μ-loop
@@ -68,27 +88,27 @@ shared-slice-read-row c = omega arith
 step-if-below-requires : tie.Need-step-if-below-requires Inv-loop μ-loop
 step-if-below-requires c κs =
     let at-loop = c .before .before in
-    let start = at-loop .before .before .before .before in
+    let start = at-loop .before .before .before .before .before .before in
     (row-small (start .args .rows .now) (start .args .n) (start .args .m) (start .pre .1) (at-loop .loop .low + at-loop .loop .left / 2) (omega arith), omega arith)
 
 -- the step of a turn, and the one after the loop
 
 turn : (c : tie.After-step-if-below Inv-loop μ-loop) →
     let at-loop = c .before .before .before in
-    let args = at-loop .before .before .before .before .args in
+    let args = at-loop .before .before .before .before .before .before .args in
     Told (args .rows .now) (args .n) (args .m) (at-loop .loop .low + at-loop .loop .left / 2) (at-loop .loop .left / 2) (c .step-if-below .result)
 turn c =
     let at-loop = c .before .before .before in
-    let start = at-loop .before .before .before .before in
+    let start = at-loop .before .before .before .before .before .before in
     stepped (start .args .rows .now) (start .args .n) (start .args .m) (start .pre .1) (at-loop .loop .low + at-loop .loop .left / 2) (at-loop .loop .left / 2) (c .step-if-below .result) (at-loop .before .search-key .result) (omega arith) (at-loop .before .search-key .ensures) (c .step-if-below .ensures)
 
 last : (c : tie.After-step-if-below2 Inv-loop μ-loop) →
     let at-loop = c .before .before .before in
-    let args = at-loop .before .before .before .before .args in
+    let args = at-loop .before .before .before .before .before .before .args in
     Told (args .rows .now) (args .n) (args .m) (at-loop .loop .low) 1 (c .step-if-below2 .result)
 last c =
     let at-loop = c .before .before .before in
-    let start = at-loop .before .before .before .before in
+    let start = at-loop .before .before .before .before .before .before in
     stepped (start .args .rows .now) (start .args .n) (start .args .m) (start .pre .1) (at-loop .loop .low) 1 (c .step-if-below2 .result) (at-loop .before .search-key .result) (omega arith) (at-loop .before .search-key .ensures) (c .step-if-below2 .ensures)
 
 add-low : tie.Need-add-low Inv-loop μ-loop
@@ -115,14 +135,14 @@ shared-slice-read-row-2 c = omega arith
 step-if-below-requires-2 : tie.Need-step-if-below-requires-2 Inv-loop μ-loop
 step-if-below-requires-2 c κs =
     let at-loop = c .before .before in
-    let start = at-loop .before .before .before .before in
+    let start = at-loop .before .before .before .before .before .before in
     (row-small (start .args .rows .now) (start .args .n) (start .args .m) (start .pre .1) (at-loop .loop .low) (omega arith), omega arith)
 
 add-result : tie.Need-add-result Inv-loop μ-loop
 add-result c = ⊎-elim (λ w. omega arith) (λ w. omega arith) (last c)
 
-returns-2 : tie.Need-returns-2 Inv-loop μ-loop
-returns-2 c = ⊎-elim (λ w. omega arith) (λ w. omega arith) (last c)
+returns-3 : tie.Need-returns-3 Inv-loop μ-loop
+returns-3 c = ⊎-elim (λ w. omega arith) (λ w. omega arith) (last c)
 
 pub lower-bound-spec : {M : Type 1} → statement M
 lower-bound-spec =
@@ -131,6 +151,11 @@ lower-bound-spec =
     Inv-loop
     μ-loop
     returns
+    sub-if2
+    mul-if2
+    mul-if2-2
+    shared-slice-read-if2
+    returns-2
     search-key-requires
     loop-holds
     add-row
@@ -147,4 +172,4 @@ lower-bound-spec =
     shared-slice-read-row-2
     step-if-below-requires-2
     add-result
-    returns-2)
+    returns-3)
