@@ -16,7 +16,7 @@ use Rattle.words.specs.Reading.{readingInRange, qualityAllowed, readingWord}
 use Rattle.words.proofs.RegistrationWord.{registration-word-well-formed}
 use Rattle.words.proofs.ReadingWord.{reading-word-well-formed}
 use Rattle.words.proofs.Tests.{by-test}
-use Rattle.book.specs.Rows.{capacity, rowsFormed, isKnown, issueHeld, withRegistration, withReading}
+use Rattle.book.specs.Rows.{Row, capacity, rowsFormed, isKnown, issueHeld, withRegistration, withReading}
 use Rattle.book.specs.Book.{Book, usedRows, wellFormed}
 use Rattle.book.specs.Causes.{bookIllFormed}
 use Rattle.book.specs.Calls.{Setting, Call, register, reading, setting, outcome, settingInRange, registerInRange, readingCallInRange, registerCause, readingCause, settingCause, settingCall, registerCall, readingCall, callOutcome, bookAfter, numbersGiven}
@@ -28,11 +28,22 @@ use Rattle.book.proofs.RegisterCall.{register-out-of-range, register-no
 use Rattle.book.proofs.ReadingCall.{reading-out-of-range, reading-of-refused-quality, reading-of-unknown-meter, reading-not-above, reading-above}
 use Rattle.book.proofs.BookFormed.{set-formed, rows-stored-formed}
 
-pub above-nothing : (m : ℕ) → isMpan m ≡ true → 0 < m
+above-nothing : (m : ℕ) → isMpan m ≡ true → 0 < m
 unfolding isMpan
 above-nothing m h =
     let least = leb-true mpanLeast m (and-eq-true-iff (leb mpanLeast m) (leb m mpanMost) .0 h .0) in
     omega arith
+
+-- well-formed rows with an in-range registration stored, and with an in-range reading of an allowed quality
+
+pub rows-registered : (m : ℕ) (r : Registration) (rows : List Row) → registerInRange m r ≡ true → rowsFormed 0 rows ≡ true → rowsFormed 0 (withRegistration m (registrationWord r) rows) ≡ true
+rows-registered m r rows range formed =
+    let parts = and-eq-true-iff (isMpan m) (registrationInRange r) .0 range in
+    registration-formed 0 m (registrationWord r) rows formed (above-nothing m (parts .0)) (parts .0) (registration-word-well-formed r (parts .1))
+
+pub rows-read : (m : ℕ) (r : Reading) (rows : List Row) → readingCallInRange m r ≡ true → qualityAllowed r ≡ true → rowsFormed 0 rows ≡ true → rowsFormed 0 (withReading m (readingWord r) rows) ≡ true
+rows-read m r rows range allowed formed =
+    reading-formed 0 m (readingWord r) rows formed (reading-word-well-formed r (and-eq-true-iff (isMpan m) (readingInRange r) .0 range .1) allowed)
 
 module _ (b : Book) (wf : wellFormed b ≡ true) where
   rows-within : length (usedRows b) ≤ capacity (b .rows)
@@ -49,10 +60,7 @@ module _ (b : Book) (wf : wellFormed b ≡ true) where
   -- the rows with an in-range registration stored: well formed, and within capacity if the meter is known or there is room
   module _ (m : ℕ) (r : Registration) where
     pub registered-rows-formed : registerInRange m r ≡ true → rowsFormed 0 (withRegistration m (registrationWord r) (usedRows b)) ≡ true
-    registered-rows-formed range =
-        let parts = and-eq-true-iff (isMpan m) (registrationInRange r) .0 range in
-        registration-formed 0 m (registrationWord r) (usedRows b) (formed-book b wf .rows-formed)
-        (above-nothing m (parts .0)) (parts .0) (registration-word-well-formed r (parts .1))
+    registered-rows-formed range = rows-registered m r (usedRows b) range (formed-book b wf .rows-formed)
 
     pub known-row-fits : isKnown m (usedRows b) ≡ true → length (withRegistration m (registrationWord r) (usedRows b)) ≤ capacity (b .rows)
     known-row-fits known = rw (length-replaced 0 m (registrationWord r) (usedRows b) (formed-book b wf .rows-formed) known) rows-within
@@ -80,9 +88,7 @@ module _ (b : Book) (wf : wellFormed b ≡ true) where
   -- the rows with an in-range reading of an allowed quality stored
   module _ (m : ℕ) (r : Reading) where
     pub read-rows-formed : readingCallInRange m r ≡ true → qualityAllowed r ≡ true → rowsFormed 0 (withReading m (readingWord r) (usedRows b)) ≡ true
-    read-rows-formed range quality =
-        let in-range = and-eq-true-iff (isMpan m) (readingInRange r) .0 range .1 in
-        reading-formed 0 m (readingWord r) (usedRows b) (formed-book b wf .rows-formed) (reading-word-well-formed r in-range quality)
+    read-rows-formed range quality = rows-read m r (usedRows b) range quality (formed-book b wf .rows-formed)
 
     pub read-rows-fit : length (withReading m (readingWord r) (usedRows b)) ≤ capacity (b .rows)
     read-rows-fit = rw (length-reading m (readingWord r) (usedRows b)) rows-within

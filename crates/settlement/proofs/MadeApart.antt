@@ -5,19 +5,17 @@ use mathlib.Core.Bool.{true, false}
 use mathlib.Core.List.{List}
 use native.Mathlib.Omega.{arith}
 use lib.ListN.{length, set, take, drop}
-use Rattle.words.specs.declared.Registration.{Registration}
-use Rattle.words.specs.declared.Reading.{Reading}
 use Rattle.words.specs.Registration.{registrationWord}
 use Rattle.words.specs.Reading.{readingWord}
 use Rattle.words.proofs.Tests.{by-test}
 use Rattle.book.specs.declared.Settings.{Settings}
 use Rattle.book.specs.declared.Answer.{Answer}
 use Rattle.book.specs.Settings.{withMeters}
-use Rattle.book.specs.Rows.{Row, rowsOf, rowsFormed, isKnown, withRegistration, withReading}
+use Rattle.book.specs.Rows.{Row, rowsFormed, isKnown, withRegistration, withReading}
 use Rattle.book.specs.Book.{Book, usedRows, wellFormed}
 use Rattle.book.specs.Causes.{accepted}
 use Rattle.book.specs.Calls.{Setting, Call, register, reading, setting, outcome, withSetting, withRows, settingCause, settingCall, registerCause, registerCall, readingCause, readingCall, callOutcome}
-use Rattle.book.specs.Contracts.{lent, Gives, Stores, Sets}
+use Rattle.book.specs.Contracts.{lent, Stores, Sets}
 use Rattle.book.proofs.BookFormed.{count-kept}
 use Rattle.book.proofs.RowsOf.{length-rows}
 use Rattle.book.proofs.WellFormed.{room, formed-book, rows-ready}
@@ -26,8 +24,8 @@ use Rattle.book.proofs.WithReading.{length-reading}
 use Rattle.two_parts.specs.TwoParts.{asOne, laterMost, PartsReady, StoresApart, HasRoom}
 use Rattle.two_parts.proofs.AsOne.{as-one-none, none-later}
 use Rattle.settlement.specs.Listed.{callWords, callOf, writesRows, listOutcome, ListGives}
-use Rattle.settlement.proofs.CallOf.{IsSetting, is-setting}
-use Rattle.settlement.proofs.ListMade.{Made, none-made, part-is, row-call-made, setting-call-made, list-made}
+use Rattle.settlement.proofs.CallOf.{is-setting}
+use Rattle.settlement.proofs.ListMade.{Made, none-made, row-call-made, setting-call-made, list-made}
 
 -- how many meters a call adds to a well-formed book: one at most, and none where it sets a setting
 

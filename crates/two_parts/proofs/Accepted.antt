@@ -8,13 +8,13 @@ use lib.ListN.{length, drop}
 use lib.Seq.{drop-append-add, drop-drop}
 use Rattle.book.specs.declared.Settings.{Settings}
 use Rattle.book.specs.Settings.{withMeters}
-use Rattle.book.specs.Rows.{Row, capacity, rowsOf, wordsOf, written, rowsFormed, isKnown}
+use Rattle.book.specs.Rows.{Row, rowsOf, wordsOf, written, rowsFormed, isKnown}
 use Rattle.book.specs.Book.{Book, wellFormed}
 use Rattle.book.specs.Causes.{accepted}
 use Rattle.book.specs.Calls.{Outcome, withRows}
-use Rattle.book.specs.Contracts.{lent, Stores}
+use Rattle.book.specs.Contracts.{lent}
 use Rattle.book.proofs.BookFormed.{capacity-same}
-use Rattle.book.proofs.RowsOf.{length-rows, length-words}
+use Rattle.book.proofs.RowsOf.{length-words}
 use Rattle.book.proofs.WellFormed.{room}
 use Rattle.book.proofs.Written.{length-written, rows-of-written}
 use Rattle.two_parts.specs.TwoParts.{merged, laterRows, asOne, PartsReady, StoresApart}

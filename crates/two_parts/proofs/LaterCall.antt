@@ -1,6 +1,6 @@
 -- A call made on the later rows alone, lent as a book of their own, is the call made on the whole.
 use Prim.Native.Nat.{ℕ, zero, suc, _+_, _-_, _*_, _≤_}
-use mathlib.Core.Path.{_≡_, refl, sym, _∙_, ap}
+use mathlib.Core.Path.{_≡_, refl, _∙_, ap}
 use mathlib.Core.Bool.{true, false}
 use mathlib.Core.List.{List}
 use native.Mathlib.Omega.{arith}
@@ -17,7 +17,7 @@ use Rattle.book.proofs.BookFormed.{capacity-same, meters-formed, fresh-formed}
 use Rattle.book.proofs.RowsOf.{length-rows}
 use Rattle.book.proofs.WellFormed.{FormedBook, book-formed}
 use Rattle.book.proofs.Written.{length-written, rows-of-written}
-use Rattle.two_parts.specs.TwoParts.{merged, laterRows, asOne, PartsReady, StoresApart}
+use Rattle.two_parts.specs.TwoParts.{merged, laterRows, PartsReady, StoresApart}
 use Rattle.two_parts.proofs.AsOne.{as-one-rows}
 use Rattle.two_parts.proofs.LentPart.{partAfter, putAfter, part-length, part-capacity, part-rows, put-length, put-first, put-later, put-tail}
 use Rattle.two_parts.proofs.Accepted.{tail-written, whole, refused-apart, accepted-apart}

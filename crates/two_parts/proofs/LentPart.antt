@@ -3,7 +3,7 @@ use Prim.Native.Nat.{ℕ, zero, suc, _+_, _*_, _-_, _≤_}
 use mathlib.Core.Path.{_≡_, refl, sym, _∙_, ap}
 use mathlib.Core.List.{List, [], _∷_, _++_}
 use native.Mathlib.Omega.{arith}
-use borrow.Rule.Slice.PartMut.{midOf, putMid, postOf, same-len-mid, put-same}
+use borrow.Rule.Slice.PartMut.{midOf, putMid, postOf, same-len-mid}
 use lib.ListN.{length, take, drop, length-take, length-drop, take-append-drop}
 use lib.Seq.{length-take-le, drop-drop, drop-at, drop-append-le}
 use Rattle.book.specs.Rows.{Row, capacity, rowsOf}

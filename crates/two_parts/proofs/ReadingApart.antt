@@ -1,7 +1,7 @@
 -- The ways of a reading call on rows in two parts.
 use Prim.Native.Nat.{ℕ, _+_, _-_, _*_, _≤_, _<_}
-use mathlib.Core.Path.{_≡_, refl, sym, _∙_, ap}
-use mathlib.Core.Bool.{true, false, not, and-eq-true-iff}
+use mathlib.Core.Path.{_≡_, sym, _∙_}
+use mathlib.Core.Bool.{true, false, not}
 use mathlib.Core.List.{List}
 use native.Mathlib.Omega.{arith}
 use borrow.Author.Tests.{not-false}
@@ -9,21 +9,20 @@ use borrow.Rule.Slice.PartMut.{midOf, putMid}
 use lib.Dec.{leb}
 use lib.ListN.{length, getD, set}
 use Rattle.words.specs.declared.Reading.{Reading}
-use Rattle.words.specs.Mpan.{isMpan}
-use Rattle.words.specs.Reading.{readingInRange, qualityAllowed, readingWord, issueOf}
-use Rattle.words.proofs.ReadingWord.{reading-word-well-formed}
+use Rattle.words.specs.Reading.{qualityAllowed, readingWord, issueOf}
 use Rattle.book.specs.declared.Settings.{Settings}
-use Rattle.book.specs.Rows.{Row, capacity, rowsOf, rowsFormed, isKnown, issueHeld, withReading, written}
+use Rattle.book.specs.Rows.{capacity, rowsOf, isKnown, issueHeld, withReading}
 use Rattle.book.specs.Book.{Book, usedRows, wellFormed}
 use Rattle.book.specs.Causes.{refuse, accepted, argumentOutOfRange, qualityRefused, meterUnknown, issueNotAbove}
 use Rattle.book.specs.Calls.{readingCallInRange, readingCause, readingCall}
 use Rattle.book.specs.Contracts.{placeOf, Stores}
 use Rattle.book.proofs.Answers.{passed}
+use Rattle.book.proofs.CallFormed.{rows-read}
 use Rattle.book.proofs.RowsOf.{length-rows}
 use Rattle.book.proofs.WellFormed.{room}
-use Rattle.book.proofs.WithReading.{length-reading, reading-formed, reading-stores, issue-in}
+use Rattle.book.proofs.WithReading.{length-reading, reading-stores, issue-in}
 use Rattle.book.proofs.ReadingCall.{reading-not-above, reading-above, keeps-out-of-range, keeps-refused-quality}
-use Rattle.two_parts.specs.TwoParts.{merged, laterRows, asOne, PartsReady, StoresApart}
+use Rattle.two_parts.specs.TwoParts.{laterRows, asOne, PartsReady, StoresApart}
 use Rattle.two_parts.proofs.Merged.{known-merged-first, known-merged-later, issue-merged-first, issue-merged-later, read-first, read-later}
 use Rattle.two_parts.proofs.AsOne.{as-one-rows, as-one-ready}
 use Rattle.two_parts.proofs.KnownAfter.{known-read, apart-the-other-way}
@@ -39,11 +38,6 @@ cause-formed : (b : Book) (m : ℕ) (r : Reading) → wellFormed b ≡ true
     (refuse (leb (r .issue) (issueHeld m (usedRows b))) issueNotAbove accepted)))
 unfolding readingCause
 cause-formed b m r wf = rw wf
-
--- rows with an in-range reading of an allowed quality stored
-rows-read : (m : ℕ) (r : Reading) (rows : List Row) → readingCallInRange m r ≡ true → qualityAllowed r ≡ true → rowsFormed 0 rows ≡ true → rowsFormed 0 (withReading m (readingWord r) rows) ≡ true
-rows-read m r rows range allowed formed =
-    reading-formed 0 m (readingWord r) rows formed (reading-word-well-formed r (and-eq-true-iff (isMpan m) (readingInRange r) .0 range .1) allowed)
 
 module _ (first later : ℕ) (words : List ℕ) (ready : PartsReady first later words) (m : ℕ) (r : Reading) where
   pub reads-out-of-range : readingCallInRange m r ≡ false → StoresApart (λ b. readingCall b m r) first later words argumentOutOfRange later words

@@ -1,7 +1,7 @@
 -- The ways of a register call on rows in two parts.
 use Prim.Native.Nat.{ℕ, _+_, _-_, _*_, _≤_, _<_}
-use mathlib.Core.Path.{_≡_, refl, sym, _∙_, ap}
-use mathlib.Core.Bool.{true, false, not, and-eq-true-iff}
+use mathlib.Core.Path.{_≡_, sym, _∙_}
+use mathlib.Core.Bool.{true, false, not}
 use mathlib.Core.List.{List}
 use native.Mathlib.Omega.{arith}
 use borrow.Author.Tests.{not-false, le-leb, leb-true, leb-false}
@@ -9,23 +9,21 @@ use borrow.Rule.Slice.PartMut.{midOf, putMid}
 use lib.Dec.{leb}
 use lib.ListN.{length, set}
 use Rattle.words.specs.declared.Registration.{Registration}
-use Rattle.words.specs.Mpan.{isMpan}
-use Rattle.words.specs.Registration.{registrationInRange, registrationWord}
-use Rattle.words.proofs.RegistrationWord.{registration-word-well-formed}
+use Rattle.words.specs.Registration.{registrationWord}
 use Rattle.words.proofs.Tests.{by-test, same-test}
 use Rattle.book.specs.declared.Settings.{Settings}
-use Rattle.book.specs.Rows.{Row, capacity, rowsOf, rowsFormed, isKnown, withRegistration, written}
+use Rattle.book.specs.Rows.{capacity, rowsOf, isKnown, withRegistration}
 use Rattle.book.specs.Book.{Book, usedRows, wellFormed}
 use Rattle.book.specs.Causes.{refuse, accepted, argumentOutOfRange, capacityReached}
 use Rattle.book.specs.Calls.{registerInRange, hasNoRoom, registerCause, registerCall}
 use Rattle.book.specs.Contracts.{placeOf, Stores}
 use Rattle.book.proofs.Answers.{passed}
-use Rattle.book.proofs.CallFormed.{above-nothing}
+use Rattle.book.proofs.CallFormed.{rows-registered}
 use Rattle.book.proofs.RowsOf.{length-rows}
 use Rattle.book.proofs.WellFormed.{room}
-use Rattle.book.proofs.WithRegistration.{length-inserted, length-replaced, registration-formed, registration-stores}
+use Rattle.book.proofs.WithRegistration.{length-inserted, length-replaced, registration-stores}
 use Rattle.book.proofs.RegisterCall.{register-known, stores-out-of-range}
-use Rattle.two_parts.specs.TwoParts.{merged, laterRows, asOne, PartsReady, StoresApart}
+use Rattle.two_parts.specs.TwoParts.{laterRows, asOne, PartsReady, StoresApart}
 use Rattle.two_parts.proofs.Merged.{known-merged-first, known-merged-later, registered-first, registered-later}
 use Rattle.two_parts.proofs.AsOne.{as-one-rows, as-one-capacity, as-one-ready}
 use Rattle.two_parts.proofs.KnownAfter.{registered-first-apart, registered-later-apart, apart-the-other-way}
@@ -37,12 +35,6 @@ use Rattle.two_parts.proofs.LaterCall.{partBook, Replaces, first-within
 cause-formed : (b : Book) (m : ℕ) (r : Registration) → wellFormed b ≡ true → registerCause b m r ≡ refuse (not (registerInRange m r)) argumentOutOfRange (refuse (hasNoRoom b m) capacityReached accepted)
 unfolding registerCause
 cause-formed b m r wf = rw wf
-
--- rows with an in-range registration stored
-rows-registered : (m : ℕ) (r : Registration) (rows : List Row) → registerInRange m r ≡ true → rowsFormed 0 rows ≡ true → rowsFormed 0 (withRegistration m (registrationWord r) rows) ≡ true
-rows-registered m r rows range formed =
-    let parts = and-eq-true-iff (isMpan m) (registrationInRange r) .0 range in
-    registration-formed 0 m (registrationWord r) rows formed (above-nothing m (parts .0)) (parts .0) (registration-word-well-formed r (parts .1))
 
 module _ (first later : ℕ) (words : List ℕ) (ready : PartsReady first later words) (m : ℕ) (r : Registration) where
   pub registers-out-of-range : registerInRange m r ≡ false → StoresApart (λ b. registerCall b m r) first later words argumentOutOfRange later words

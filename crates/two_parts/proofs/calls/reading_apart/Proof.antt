@@ -1,14 +1,14 @@
 -- `reading_apart` leaves what the reading call leaves on the parts merged: one law for each way it ends. Assumes nothing.
-use Prim.Native.Nat.{ℕ, _+_, _-_, _*_, _≤_}
+use Prim.Native.Nat.{ℕ, _+_, _*_, _≤_}
 use mathlib.Core.Path.{_≡_, sym, _∙_, ap}
-use mathlib.Core.Bool.{true, false, and-eq-true-iff}
+use mathlib.Core.Bool.{true, and-eq-true-iff}
 use native.Mathlib.Omega.{arith}
 use borrow.Author.Needs.{needs}
 use borrow.Author.Tests.{not-true, not-false}
 use lib.ListN.{length, getD}
 use Rattle.words.specs.Reading.{qualityAllowed, issueOf}
 use Rattle.book.specs.declared.Place.{Place}
-use Rattle.book.specs.Rows.{capacity, rowsOf, isKnown}
+use Rattle.book.specs.Rows.{rowsOf, isKnown}
 use Rattle.book.specs.Calls.{readingCallInRange}
 use Rattle.book.specs.Contracts.{placeOf}
 use Rattle.book.proofs.PlaceOf.{known-within-in}

@@ -1,14 +1,13 @@
 -- `register_apart` leaves what the register call leaves on the parts merged: one law for each way it ends. Assumes nothing.
-use Prim.Native.Nat.{_+_, _-_, _*_, _≤_}
+use Prim.Native.Nat.{_+_, _*_, _≤_}
 use mathlib.Core.Path.{_≡_, sym, _∙_, ap}
-use mathlib.Core.Bool.{true, false, and-eq-true-iff}
+use mathlib.Core.Bool.{true, and-eq-true-iff}
 use native.Mathlib.Omega.{arith}
 use borrow.Author.Needs.{needs}
 use borrow.Author.Tests.{not-true, not-false}
 use lib.ListN.{length}
-use Rattle.words.specs.Registration.{registrationInRange}
 use Rattle.book.specs.declared.Place.{Place}
-use Rattle.book.specs.Rows.{capacity, rowsOf, isKnown}
+use Rattle.book.specs.Rows.{rowsOf, isKnown}
 use Rattle.book.specs.Calls.{registerInRange}
 use Rattle.book.specs.Contracts.{placeOf}
 use Rattle.book.proofs.PlaceOf.{known-within-in}
