@@ -1,2 +1,4 @@
--- What the functions that gather lines say of each other.
-pub mod Gathering
+-- What the program makes of its input, byte by byte, and how the functions speak of it.
+pub mod Program
+pub mod Contracts
+pub mod Example

@@ -3,13 +3,17 @@
 mod input;
 mod lines;
 mod output;
-mod report;
 
 use book::Settings;
 use period_file::lines::LINE_MAX;
+ghost use Rattle.settle_run.specs.Contracts.{Fresh, Between, Read};
 
 // The words of 512 meters.
 const ROW_WORDS: usize = 1_536;
+
+// A byte of the input prints at most 50 bytes, and the end of the input at most 2,098: a buffer of this size holds what one
+// read of at most 1,024 bytes and the end of the input can print.
+const OUT_BYTES: usize = 65_536;
 
 // How far the work is.
 const READING: u64 = 0;
@@ -30,9 +34,26 @@ pub struct State {
     pub used: usize,
 }
 
+// The state before the first byte.
+fn fresh_state() -> State
+    ensures { λ r. ⌜ Fresh r ⌝ }
+{
+    State {
+        settings: Settings::fresh(),
+        phase: READING,
+        last_kind: 0,
+        line: 1,
+        length: 0,
+        used: 0,
+    }
+}
+
 // Reads to the end of the input, or to a line out of form. A proved loop has to end, and nothing says that the input does: so
 // it counts its turns down, from a number that no run uses up.
-fn read_all(state: State, line: &mut [u8], rows: &mut [u64], out: &mut [u8]) -> State {
+fn read_all(state: State, line: &mut [u8], rows: &mut [u64], out: &mut [u8]) -> State
+    requires { ⌜ Between state (now line) (now out) ⌝ }
+    ensures { λ r. ⌜ Read state (now (line .entry)) (now (rows .entry)) r (now (line .exit)) (now (rows .exit)) (now (out .exit)) ⌝ }
+{
     let mut now = state;
     let mut turns = u64::MAX;
     while 0 < turns {
@@ -49,17 +70,8 @@ fn read_all(state: State, line: &mut [u8], rows: &mut [u64], out: &mut [u8]) -> 
 pub fn run() {
     let mut rows = [0u64; ROW_WORDS];
     let mut line = [0u8; LINE_MAX];
-    let mut out = [0u8; 4_096];
-    let fresh = State {
-        settings: Settings::fresh(),
-        phase: READING,
-        last_kind: 0,
-        line: 1,
-        length: 0,
-        used: 0,
-    };
-    let read = read_all(fresh, &mut line, &mut rows, &mut out);
-    let last = lines::end_input(read, &line, &mut rows, &mut out);
-    let used = report::print_allocation(last, &rows, &mut out);
+    let mut out = [0u8; OUT_BYTES];
+    let read = read_all(fresh_state(), &mut line, &mut rows, &mut out);
+    let used = lines::finish(read, &line, &mut rows, &mut out);
     output::flush(&out, used);
 }

@@ -1,78 +1,37 @@
-// Lines gathered from the bytes that reads give, whatever the sizes of the reads.
+// Lines gathered from the bytes that reads give, whatever the sizes of the reads, and what is printed of them.
 use crate::State;
-use crate::report::put_refused;
-use crate::report::put_value;
+use allocation::allocate::allocate;
 use book::calls::ACCEPTED;
 use period_file::calls::answer_line;
-ghost use Prim.Native.Nat.{_≤_, _<_};
-ghost use lib.ListN.{length};
-ghost use Rattle.settle_run.specs.Gathering.{Ahead};
+use report::lines::put_allocation;
+use report::lines::put_bad_line;
+use report::lines::put_refused;
+ghost use Prim.Native.Nat.{_+_, _*_, _≤_};
+ghost use lib.ListN.{length, take};
+ghost use Rattle.report.specs.Appended.{Printed};
+ghost use Rattle.settle_run.specs.Program.{endLine, takeByte, takeBytes, takeRead, endInput, endText};
+ghost use Rattle.settle_run.specs.Contracts.{held, Ready, Took, Stopped, Closed};
 
 const LINE_FEED: u8 = b'\n';
 
-// Why gathering stopped: the chunk is used up, a line feed, or a byte more than a line may have.
-const OPEN: u64 = 0;
-
-const FEED: u64 = 1;
-
-const TOO_LONG: u64 = 2;
-
-pub struct Gathered {
-    pub at: usize,
-    pub length: usize,
-    pub stop: u64,
-}
-
-pub struct Fed {
-    pub at: usize,
-    pub state: State,
-}
-
-// Moves bytes of the chunk, from `from` on, into the line buffer behind the `filled` bytes that stand there.
-fn gather(chunk: &[u8], from: usize, line: &mut [u8], filled: usize) -> Gathered
-    requires { ⌜ from < length (now chunk) ⌝ }
-    ensures { λ r. ⌜ Ahead from (r .at) (now (chunk .entry)) ⌝ }
-{
-    let mut at = from;
-    let mut n = filled;
-    while at < chunk.len() {
-        let byte = chunk[at];
-        at += 1;
-        if byte == LINE_FEED {
-            return Gathered {
-                at,
-                length: n,
-                stop: FEED,
-            };
-        }
-        if line.len() <= n {
-            return Gathered {
-                at,
-                length: n,
-                stop: TOO_LONG,
-            };
-        }
-        line[n] = byte;
-        n += 1;
-    }
-    Gathered {
-        at,
-        length: n,
-        stop: OPEN,
-    }
-}
-
 // The state after a line out of form: its number is printed, and the program ends.
-fn out_of_form(state: State, out: &mut [u8]) -> State {
+fn out_of_form(state: State, out: &mut [u8]) -> State
+    requires { ⌜ state .used + 50 ≤ length (now out) ⌝ }
+    ensures { λ r. ⌜ Stopped state (now (out .entry)) r (now (out .exit)) ⌝ }
+{
     let mut next = state;
-    next.used = put_value(out, state.used, b"line=", state.line);
+    next.used = put_bad_line(out, state.used, state.line);
     next.phase = crate::STOPPED;
     next
 }
 
 // The end of a line: its call is made, and a refusal printed.
-fn end_line(state: State, line: &[u8], rows: &mut [u64], out: &mut [u8]) -> State {
-    let taken = answer_line(state.settings, state.last_kind, rows, line);
+fn end_line(state: State, line: &[u8], rows: &mut [u64], out: &mut [u8]) -> State
+    requires { ⌜ Ready 50 state (now line) (now out) ⌝ }
+    ensures { λ r. ⌜ Took (endLine (held state (now (line .entry)) (now (rows .entry)))) 50 (now (out .entry)) (state .used) r (now (line .entry)) (now (rows .exit)) (now (out .exit)) ⌝ }
+{
+    let length = state.length;
+    let taken = answer_line(state.settings, state.last_kind, rows, &line[0..length]);
     if taken.kind == 0 {
         return out_of_form(state, out);
     }
@@ -89,71 +48,94 @@ fn end_line(state: State, line: &[u8], rows: &mut [u64], out: &mut [u8]) -> Stat
     next
 }
 
-// The line that stands in the first bytes of the line buffer.
-fn end_gathered(state: State, line: &[u8], rows: &mut [u64], out: &mut [u8]) -> State {
-    let length = state.length;
-    if line.len() < length {
+// One byte of the input; after a line out of form none changes anything.
+fn take_byte(state: State, byte: u8, line: &mut [u8], rows: &mut [u64], out: &mut [u8]) -> State
+    requires { ⌜ Ready 50 state (now line) (now out) ⌝ }
+    ensures { λ r. ⌜ Took (takeByte (held state (now (line .entry)) (now (rows .entry))) byte) 50 (now (out .entry)) (state .used) r (now (line .exit)) (now (rows .exit)) (now (out .exit)) ⌝ }
+{
+    if state.phase != crate::READING {
+        return state;
+    }
+    if byte == LINE_FEED {
+        return end_line(state, line, rows, out);
+    }
+    let n = state.length;
+    if line.len() <= n {
         return out_of_form(state, out);
     }
-    end_line(state, &line[0..length], rows, out)
+    line[n] = byte;
+    let mut next = state;
+    next.length = n + 1;
+    next
 }
 
-// Takes the bytes of the chunk from `from` on, up to the end of a line or of the chunk.
-fn feed_from(
-    state: State,
-    chunk: &[u8],
-    from: usize,
-    line: &mut [u8],
-    rows: &mut [u64],
-    out: &mut [u8],
-) -> Fed
-    requires { ⌜ from < length (now chunk) ⌝ }
-    ensures { λ r. ⌜ Ahead from (r .at) (now (chunk .entry)) ⌝ }
+// Takes all bytes of a chunk.
+fn feed(state: State, chunk: &[u8], line: &mut [u8], rows: &mut [u64], out: &mut [u8]) -> State
+    requires { ⌜ Ready (50 * length (now chunk)) state (now line) (now out) ⌝ }
+    ensures { λ r. ⌜ Took (takeBytes (held state (now (line .entry)) (now (rows .entry))) (now (chunk .entry))) (50 * length (now (chunk .entry))) (now (out .entry)) (state .used) r (now (line .exit)) (now (rows .exit)) (now (out .exit)) ⌝ }
 {
-    let gathered = gather(chunk, from, line, state.length);
-    let at = gathered.at;
-    let mut now = state;
-    now.length = gathered.length;
-    let stop = gathered.stop;
-    if stop == FEED {
-        let next = end_gathered(now, line, rows, out);
-        return Fed { at, state: next };
-    }
-    if stop == TOO_LONG {
-        let next = out_of_form(now, out);
-        return Fed { at, state: next };
-    }
-    Fed { at, state: now }
-}
-
-// Takes all bytes of a chunk, or those up to a line out of form.
-pub fn feed(
-    state: State,
-    chunk: &[u8],
-    line: &mut [u8],
-    rows: &mut [u64],
-    out: &mut [u8],
-) -> State {
     let mut now = state;
     let mut at = 0;
     while at < chunk.len() {
-        let fed = feed_from(now, chunk, at, line, rows, out);
-        at = fed.at;
-        now = fed.state;
-        if now.phase != crate::READING {
-            return now;
-        }
+        now = take_byte(now, chunk[at], line, rows, out);
+        at += 1;
     }
     now
 }
 
+// What one read gave: the first n bytes of the chunk; none are the end of the input.
+pub fn take_read(
+    state: State,
+    chunk: &[u8],
+    n: usize,
+    line: &mut [u8],
+    rows: &mut [u64],
+    out: &mut [u8],
+) -> State
+    requires { ⌜ n ≤ length (now chunk) ⌝ }
+    requires { ⌜ Ready (50 * n) state (now line) (now out) ⌝ }
+    ensures { λ r. ⌜ Took (takeRead (held state (now (line .entry)) (now (rows .entry))) (take n (now (chunk .entry)))) (50 * n) (now (out .entry)) (state .used) r (now (line .exit)) (now (rows .exit)) (now (out .exit)) ⌝ }
+{
+    if n == 0 {
+        let mut next = state;
+        next.phase = crate::INPUT_ENDED;
+        return next;
+    }
+    feed(state, &chunk[0..n], line, rows, out)
+}
+
 // The end of the input: the last line's end may be missing.
-pub fn end_input(state: State, line: &[u8], rows: &mut [u64], out: &mut [u8]) -> State {
+fn end_input(state: State, line: &[u8], rows: &mut [u64], out: &mut [u8]) -> State
+    requires { ⌜ Ready 50 state (now line) (now out) ⌝ }
+    ensures { λ r. ⌜ Took (endInput (held state (now (line .entry)) (now (rows .entry)))) 50 (now (out .entry)) (state .used) r (now (line .entry)) (now (rows .exit)) (now (out .exit)) ⌝ }
+{
     if state.phase != crate::INPUT_ENDED {
         return state;
     }
     if state.length == 0 {
         return state;
     }
-    end_gathered(state, line, rows, out)
+    end_line(state, line, rows, out)
+}
+
+// Allocates, where the whole input was in form, and prints the outcome.
+fn print_allocation(state: State, rows: &[u64], out: &mut [u8]) -> usize
+    requires { ⌜ state .used + 2048 ≤ length (now out) ⌝ }
+    ensures { λ r. ⌜ Closed state (now (rows .entry)) (now (out .entry)) (now (out .exit)) r ⌝ }
+{
+    if state.phase != crate::INPUT_ENDED {
+        return state.used;
+    }
+    let mut volumes = [0i64; 32];
+    let made = allocate(state.settings, rows, &mut volumes);
+    put_allocation(out, state.used, made.answer, &volumes)
+}
+
+// What is printed once the input has ended.
+pub fn finish(state: State, line: &[u8], rows: &mut [u64], out: &mut [u8]) -> usize
+    requires { ⌜ Ready 2098 state (now line) (now out) ⌝ }
+    ensures { λ r. ⌜ Printed 2098 (now (out .entry)) (state .used) (endText (held state (now (line .entry)) (now (rows .entry)))) (now (out .exit)) r ⌝ }
+{
+    let last = end_input(state, line, rows, out);
+    print_allocation(last, rows, out)
 }

@@ -1,4 +1,4 @@
-// Output, gathered in a lent buffer: `used` bytes at its start wait to be written.
+// Output that was gathered in a lent buffer: `used` bytes at its start wait to be written.
 use libc::STDOUT_FILENO;
 ghost use Prim.Native.Nat.{_≤_};
 ghost use lib.ListN.{length};
@@ -50,46 +50,4 @@ pub fn flush(out: &[u8], used: usize) {
     if used <= out.len() {
         write_out(&out[0..used]);
     }
-}
-
-// Adds a byte; a full buffer is written first.
-pub fn put(out: &mut [u8], used: usize, byte: u8) -> usize {
-    let mut at = used;
-    if out.len() <= at {
-        write_out(out);
-        at = 0;
-    }
-    if at < out.len() {
-        out[at] = byte;
-        at += 1;
-    }
-    at
-}
-
-pub fn put_all(out: &mut [u8], used: usize, bytes: &[u8]) -> usize {
-    let mut at = used;
-    let mut i = 0;
-    while i < bytes.len() {
-        at = put(out, at, bytes[i]);
-        i += 1;
-    }
-    at
-}
-
-pub fn put_number(out: &mut [u8], used: usize, n: u64) -> usize {
-    let mut text = [0u8; 20];
-    let k = io::decimal(n, &mut text);
-    put_all(out, used, &text[..k])
-}
-
-pub fn put_signed(out: &mut [u8], used: usize, n: i64) -> usize {
-    if n < 0 {
-        let at = put(out, used, b'-');
-        return put_number(out, at, integers::magnitude(n));
-    }
-    put_number(out, used, integers::magnitude(n))
-}
-
-pub fn end_line(out: &mut [u8], used: usize) -> usize {
-    put(out, used, b'\n')
 }
