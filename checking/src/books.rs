@@ -2,7 +2,6 @@
 
 use crate::call::Call;
 use crate::check::Case;
-use crate::library::{Reading, Registration};
 use crate::model::allocation::Sums;
 use crate::model::ranges::{call_in_range, capacity};
 use crate::model::words::{reading_word, registration_word};
@@ -10,6 +9,7 @@ use crate::model::Book;
 use crate::profile::Profile;
 use crate::random::Random;
 use crate::reach::Entry;
+use cepnhoy::{Reading, Registration};
 
 /// A call for a book with these meters, often at or past the end of a range.
 pub fn random_call_on(mpans: &[u64], entry: Entry, random: &mut Random) -> Call {

@@ -2,10 +2,10 @@
 
 use std::fmt;
 
-use crate::library::{
+use crate::random::Random;
+use cepnhoy::{
     Reading, Registration, CALL_WORDS, KIND_READING, KIND_REGISTER, KIND_SHAPE, KIND_TAKE, KIND_TOLERANCE, KIND_WEIGHT,
 };
-use crate::random::Random;
 
 #[derive(Clone, Copy, Debug, PartialEq, Eq)]
 pub enum Call {

@@ -4,13 +4,13 @@ use crate::books::random_volume_words;
 use crate::call::{list_words, Call};
 use crate::compare::{at, same, same_allocated, same_settings, same_words, Checked};
 use crate::lent::{Guarded, Lent};
-use crate::library::{self, CALL_WORDS};
 use crate::model::allocation::{allocate, Allocation, Contents};
 use crate::model::ranges::capacity;
 use crate::model::{Book, Meaning};
 use crate::observe::{note_allocation, note_call, note_list};
 use crate::random::Random;
 use crate::reach::{Entry, Reach, Situation};
+use cepnhoy::CALL_WORDS;
 
 /// A list of calls from a fresh book, with the slices as they are lent first.
 #[derive(Clone, Debug)]
@@ -179,7 +179,7 @@ fn check_settled(case: &Case, expected: &Expected, reach: &mut Reach) -> Checked
     let mut rows = Guarded::new(&case.rows, 5_555_555_555_555);
     let mut volumes = Guarded::new(&case.volumes, i64::MIN);
     let (mut numbers, numbers_after) = numbers_slices(&expected.numbers, random);
-    let given = library::settle_list(rows.lend(), &list_words(&case.calls, random), numbers.lend(), volumes.lend());
+    let given = cepnhoy::settle_list(rows.lend(), &list_words(&case.calls, random), numbers.lend(), volumes.lend());
     same_allocated(&given.answer, &allocation.answer)?;
     same_settings(&given.settings, &expected.book.settings())?;
     same_words("rows", rows.contents(), &expected.book.words())?;
@@ -218,7 +218,7 @@ fn check_demand(meaning: &Meaning, allocation: &Allocation, volumes: &[i64]) -> 
     let Some(workings) = &allocation.workings else {
         return Ok(());
     };
-    let total: i64 = volumes[..library::UNITS].iter().sum();
+    let total: i64 = volumes[..cepnhoy::UNITS].iter().sum();
     same("sum of the volumes", total, meaning.take_wh.unwrap_or(0))?;
     for (unit, (share, volume)) in workings.shares.iter().zip(volumes).enumerate() {
         let above_wh = i128::from(*volume) - share.whole_wh;
@@ -269,16 +269,16 @@ fn check_refused_list(case: &Case, calls: &[u64], numbers: &[u64], reach: &mut R
     let given = lent.make_calls(calls, lent_numbers.lend());
     reach.note_number(Entry::MakeCalls, 19);
     same("number of the list", given, 19)?;
-    same_settings(&lent.settings, &library::fresh())?;
+    same_settings(&lent.settings, &cepnhoy::fresh())?;
     same_words("rows", lent.rows.contents(), &case.rows)?;
     same_words("numbers", lent_numbers.contents(), numbers)?;
 
     let mut volumes = Guarded::new(&case.volumes, i64::MIN);
-    let given = library::settle_list(lent.rows.lend(), calls, lent_numbers.lend(), volumes.lend());
+    let given = cepnhoy::settle_list(lent.rows.lend(), calls, lent_numbers.lend(), volumes.lend());
     reach.note_number(Entry::SettleList, 19);
     let refused = Allocation::refused(19, None);
     same_allocated(&given.answer, &refused.answer)?;
-    same_settings(&given.settings, &library::fresh())?;
+    same_settings(&given.settings, &cepnhoy::fresh())?;
     same_words("rows", lent.rows.contents(), &case.rows)?;
     same_words("numbers", lent_numbers.contents(), numbers)?;
     lent_numbers.check_guards("numbers")?;

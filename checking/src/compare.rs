@@ -2,7 +2,7 @@
 
 use std::fmt::{Display, Write};
 
-use crate::library::{Allocated, Settings};
+use cepnhoy::{Allocated, Settings};
 
 /// A difference, in words.
 #[derive(Clone, Debug)]

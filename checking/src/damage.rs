@@ -1,10 +1,10 @@
 //! Damage to a book: bits flipped, and words and settings that no accepted call could have written.
 
-use crate::library::{Reading, Registration, Settings, CATEGORIES, CLASSES, ROW_WORDS};
 use crate::model::ranges::capacity;
 use crate::model::words::{reading_of, reading_word, registration_of, registration_word};
 use crate::named::named;
 use crate::random::Random;
+use cepnhoy::{Reading, Registration, Settings, CATEGORIES, CLASSES, ROW_WORDS};
 
 named! {
     DamageKind {

@@ -4,9 +4,9 @@ use crate::call::Call;
 use crate::check::{check_case, Case, Expected};
 use crate::compare::{at, same, same_allocated, same_words, Checked};
 use crate::lent::Lent;
-use crate::library::{Allocated, Reading, Registration, UNITS};
 use crate::reach::Reach;
 use crate::settle::format;
+use cepnhoy::{Allocated, Reading, Registration, UNITS};
 
 /// A case: its calls, and what the allocation after them gives.
 struct Figure {

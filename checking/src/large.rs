@@ -1,18 +1,19 @@
-//! Books at the limit of 65,536 meters, made as one list.
+//! Large books made as one list, with meters in any order: at the limit of 65,536 meters, and about as large as the part in which
+//! the library gathers a list's new rows before it merges them.
 
 use crate::call::Call;
 use crate::check::{check_allocation, check_call, check_lists, Case, Expected};
 use crate::compare::{at, Checked};
 use crate::lent::Lent;
-use crate::library::{Reading, Registration, CLASSES, ROW_WORDS};
 use crate::model::ranges::METERS_MOST;
 use crate::model::Book;
 use crate::moved::check_moved;
 use crate::random::Random;
 use crate::reach::{Reach, Situation};
+use cepnhoy::{Reading, Registration, CLASSES, ROW_WORDS};
 
-/// How far from its place in order a meter may be registered. In any order at all, moving rows would take most of the time.
-const DISORDER: usize = 200;
+/// How many new rows the library gathers before it merges them (`two_parts::LATER_MAX`).
+const GATHERED_MOST: usize = 512;
 
 /// What all meters of a large book have in common.
 #[derive(Clone, Copy)]
@@ -59,7 +60,7 @@ fn reading(load: Load, random: &mut Random) -> Reading {
     }
 }
 
-/// Nearly in order of MPAN; each with a few different from the next, so that new ones fit between.
+/// In any order; each with a few different from the next, so that new ones fit between.
 fn mpans(count: usize, random: &mut Random) -> Vec<u64> {
     let mut mpan = 1_000_000_000_000;
     let mut mpans = Vec::with_capacity(count);
@@ -67,9 +68,7 @@ fn mpans(count: usize, random: &mut Random) -> Vec<u64> {
         mpan += random.between(2, 100_000_000);
         mpans.push(mpan);
     }
-    for part in mpans.chunks_mut(DISORDER) {
-        random.shuffle(part);
-    }
+    random.shuffle(&mut mpans);
     mpans
 }
 
@@ -96,11 +95,16 @@ fn large_case(row_words: usize, load: Load, random: &mut Random) -> Case {
     Case { rows: random.words(row_words), calls, volumes: random.signed_words(33), seed: random.word() }
 }
 
-/// Full books: one as large as a book can be, in a slice that just fits it and in a longer one, and one that is a meter smaller.
+/// Full books: one as large as a book can be, in a slice that just fits it and in a longer one, and one that is a meter smaller; and
+/// books that fill the part of new rows, just miss it, pass it by one, and fill it several times.
 pub fn large_cases(random: &mut Random) -> Vec<Case> {
     let most = ROW_WORDS * METERS_MOST;
     let longer = most + 1 + random.index(9);
-    let sizes = [(most - 1, Load::Mixed), (most, Load::Mixed), (longer, Load::Most)];
+    let part = ROW_WORDS * GATHERED_MOST;
+    let mut sizes = vec![(most - 1, Load::Mixed), (most, Load::Mixed), (longer, Load::Most)];
+    for row_words in [part - ROW_WORDS, part, part + ROW_WORDS, 2 * part, 2 * part + ROW_WORDS, 7 * part + 1] {
+        sizes.push((row_words, Load::Mixed));
+    }
     sizes.into_iter().map(|(row_words, load)| large_case(row_words, load, random)).collect()
 }
 

@@ -2,7 +2,7 @@
 
 use crate::call::Call;
 use crate::compare::{Checked, Failure};
-use crate::library::{self, AllocationAnswer, Answer, Settings};
+use cepnhoy::{AllocationAnswer, Answer, Settings};
 
 /// How many words stand before and after a lent slice, to see that a call keeps to its slice.
 const GUARD_WORDS: usize = 4;
@@ -55,7 +55,7 @@ impl Lent {
     }
 
     pub fn fresh(rows: &[u64]) -> Lent {
-        Lent::new(library::fresh(), rows)
+        Lent::new(cepnhoy::fresh(), rows)
     }
 
     /// Makes a call through its own entry point and keeps the settings returned. A kind that no call has, has no entry point.
@@ -63,12 +63,12 @@ impl Lent {
         let settings = self.settings;
         let rows = self.rows.lend();
         let answer = match *call {
-            Call::Register { mpan, registration } => library::register(settings, rows, mpan, registration),
-            Call::Reading { mpan, reading } => library::record_reading(settings, rows, mpan, reading),
-            Call::Shape { category, wh } => library::set_shape(settings, rows, category, wh),
-            Call::Weight { class, thousandths } => library::set_weight(settings, rows, class, thousandths),
-            Call::Tolerance { g } => library::set_tolerance(settings, rows, g),
-            Call::Take { wh } => library::set_take(settings, rows, wh),
+            Call::Register { mpan, registration } => cepnhoy::register(settings, rows, mpan, registration),
+            Call::Reading { mpan, reading } => cepnhoy::record_reading(settings, rows, mpan, reading),
+            Call::Shape { category, wh } => cepnhoy::set_shape(settings, rows, category, wh),
+            Call::Weight { class, thousandths } => cepnhoy::set_weight(settings, rows, class, thousandths),
+            Call::Tolerance { g } => cepnhoy::set_tolerance(settings, rows, g),
+            Call::Take { wh } => cepnhoy::set_take(settings, rows, wh),
             Call::Unknown { .. } => return None,
         };
         Some(self.keep(answer))
@@ -76,12 +76,12 @@ impl Lent {
 
     pub fn make_calls(&mut self, call_words: &[u64], numbers: &mut [u64]) -> u64 {
         let settings = self.settings;
-        let answer = library::make_calls(settings, self.rows.lend(), call_words, numbers);
+        let answer = cepnhoy::make_calls(settings, self.rows.lend(), call_words, numbers);
         self.keep(answer)
     }
 
     pub fn allocate(&mut self, volumes: &mut [i64]) -> AllocationAnswer {
-        let answer = library::allocate(self.settings, self.rows.contents(), volumes);
+        let answer = cepnhoy::allocate(self.settings, self.rows.contents(), volumes);
         self.settings = answer.settings;
         answer
     }

@@ -9,7 +9,6 @@ pub mod damage;
 pub mod figures;
 pub mod large;
 pub mod lent;
-pub mod library;
 pub mod model;
 pub mod moved;
 mod named;

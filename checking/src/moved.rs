@@ -5,11 +5,11 @@ use std::collections::{BTreeMap, VecDeque};
 use crate::call::{list_words, Call};
 use crate::check::Case;
 use crate::compare::{at, same_allocated, same_settings, same_words, Checked};
-use crate::library::{self, AllocationAnswer};
 use crate::model::ranges::{call_in_range, capacity};
 use crate::model::Meaning;
 use crate::random::Random;
 use crate::reach::{Reach, Situation};
+use cepnhoy::AllocationAnswer;
 
 /// Where the first in-range registration of each meter stands.
 fn first_registrations(calls: &[Call]) -> BTreeMap<u64, usize> {
@@ -72,9 +72,9 @@ fn keep_order_of_equals(calls: &[Call], moved: &mut [Call]) {
 fn settle(rows: &[u64], calls: &[Call], random: &mut Random) -> (AllocationAnswer, Vec<i64>) {
     let mut rows = rows.to_vec();
     let mut numbers = vec![0; calls.len()];
-    let mut volumes = vec![0; library::UNITS];
+    let mut volumes = vec![0; cepnhoy::UNITS];
     let call_words = list_words(calls, random);
-    let answer = library::settle_list(&mut rows, &call_words, &mut numbers, &mut volumes);
+    let answer = cepnhoy::settle_list(&mut rows, &call_words, &mut numbers, &mut volumes);
     (answer, volumes)
 }
 

@@ -1,13 +1,13 @@
 //! Which situations a call or an allocation met, seen from the second method's side.
 
 use crate::call::Call;
-use crate::library::{Reading, Registration, UNITS};
 use crate::model::allocation::{
     cell_of, loss_thousandths, nearest_wh, order_served, Allocation, Cells, Contents, Energy, Sums, Workings,
 };
 use crate::model::book::shape_held;
 use crate::model::Book;
 use crate::reach::{Reach, Situation};
+use cepnhoy::{Reading, Registration, UNITS};
 
 /// Notes a call on a well-formed book, given the book before it.
 pub fn note_call(reach: &mut Reach, before: &Book, call: &Call, number: u64) {

@@ -6,11 +6,11 @@ use crate::check::{check_allocation, check_call, check_listed};
 use crate::compare::{at, settings_in_words, Checked, Failure};
 use crate::damage::Damage;
 use crate::lent::Lent;
-use crate::library::{ROW_WORDS, UNITS};
 use crate::model::Book;
 use crate::observe::{note_call, note_call_on_ill_formed};
 use crate::random::Random;
 use crate::reach::{Entry, Reach};
+use cepnhoy::{ROW_WORDS, UNITS};
 
 /// Damages a book that calls reached, if it has something that can be damaged so, and makes each of the seven calls on it, and a
 /// short list of calls.

@@ -2,10 +2,10 @@
 
 use crate::boundaries::boundaries;
 use crate::call::{Argument, Call};
-use crate::library::{Reading, Registration, CLASSES};
 use crate::model::ranges::in_range;
 use crate::random::Random;
 use crate::reach::Entry;
+use cepnhoy::{Reading, Registration, CLASSES};
 
 /// How the energies of a book's readings and shapes are spread.
 #[derive(Clone, Copy)]

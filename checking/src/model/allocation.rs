@@ -2,8 +2,8 @@
 
 use std::collections::BTreeMap;
 
-use crate::library::{Allocated, Reading, Registration, CATEGORIES, CLASSES, UNITS};
 use crate::model::fraction::Fraction;
+use cepnhoy::{Allocated, Reading, Registration, CATEGORIES, CLASSES, UNITS};
 
 /// What an allocation looks at: the settings, and each meter's registration with its reading in force.
 #[derive(Clone, Debug, PartialEq, Eq)]

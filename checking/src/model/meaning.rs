@@ -1,10 +1,10 @@
 //! What a list of calls means, read off the list, without making a single call.
 
 use crate::call::Call;
-use crate::library::{Reading, Registration, CATEGORIES, CLASSES};
 use crate::model::allocation::Contents;
 use crate::model::book::shape_held;
 use crate::model::ranges::{call_in_range, quality_refused};
+use cepnhoy::{Reading, Registration, CATEGORIES, CLASSES};
 
 /// A meter that the list has the book hold.
 #[derive(Clone, Debug, PartialEq, Eq)]

@@ -1,7 +1,7 @@
 //! The range of every argument, and the codes that cause 3 refuses.
 
 use crate::call::{Argument, Call};
-use crate::library::Reading;
+use cepnhoy::Reading;
 
 pub const METERS_MOST: usize = 65_536;
 pub const SHAPE_MISSING: i128 = 4_294_967_295;

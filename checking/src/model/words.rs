@@ -2,8 +2,8 @@
 //! the last field takes all that is left, and a stray bit shows as a field out of range.
 
 use crate::call::{reading_arguments, registration_arguments};
-use crate::library::{Reading, Registration};
 use crate::model::ranges::{all_in_range, quality_refused};
+use cepnhoy::{Reading, Registration};
 
 /// Of word 1: segment, direction, status, base, flag, additional, category; the LLF takes the rest.
 const REGISTRATION_BASES: [u64; 7] = [4, 2, 4, 32, 2, 32, 64];

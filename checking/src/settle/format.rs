@@ -3,8 +3,8 @@
 use std::fmt::Write;
 
 use crate::call::Call;
-use crate::library::{Allocated, Reading, Registration, ROW_WORDS, UNITS};
 use crate::model::Book;
+use cepnhoy::{Allocated, Reading, Registration, ROW_WORDS, UNITS};
 
 /// `settle` is for up to 512 meters.
 pub const METERS: usize = 512;

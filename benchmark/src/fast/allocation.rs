@@ -1,0 +1,121 @@
+//! An allocation: one pass over the rows, then the units.
+
+use super::rows::{is_formed, used, Row};
+use super::{
+    ACCEPTED, BOOK_ILL_FORMED, SHAPE_MISSING, TAKE_UNSET, TOLERANCE_EXCEEDED, VOLUMES_SHORT, WEIGHTED_BELOW_ONE,
+};
+use cepnhoy::{Allocated, AllocationAnswer, Settings, CATEGORIES, CLASSES, UNITS};
+
+/// Where a meter's energy comes from, as the four counts are numbered.
+const ACTUAL: usize = 0;
+const ESTIMATED: usize = 1;
+const DEFAULTED: usize = 2;
+const IDLE: usize = 3;
+
+/// Codes that a de-energised meter uses: 0 to 6, E2 (9) and E6 (13).
+const USED_DE_ENERGISED: u32 = 0x7f | 1 << 9 | 1 << 13;
+
+struct Gathered {
+    cells: [[i64; CLASSES]; UNITS],
+    counts: [u64; 4],
+    lacks: bool,
+}
+
+fn refused(number: u64) -> Allocated {
+    Allocated { number, unallocated: 0, weighted: 0, actual: 0, estimated: 0, defaulted: 0, idle: 0 }
+}
+
+#[inline(never)]
+pub fn allocate(settings: Settings, rows: &[u64], volumes: &mut [i64]) -> AllocationAnswer {
+    let answer =
+        if is_formed(&settings, rows) { allocate_formed(&settings, rows, volumes) } else { refused(BOOK_ILL_FORMED) };
+    AllocationAnswer { answer, settings }
+}
+
+fn source(registration: u64, reading: u64) -> usize {
+    let quality = reading >> 24 & 31;
+    let by_reading = if quality <= 6 { ACTUAL } else { ESTIMATED };
+    match registration >> 3 & 3 {
+        2 if reading == 0 => DEFAULTED,
+        2 => by_reading,
+        1 if reading != 0 && USED_DE_ENERGISED >> quality & 1 == 1 => by_reading,
+        _ => IDLE,
+    }
+}
+
+fn gather(rows: &[Row], shapes: &[u32; CATEGORIES]) -> Gathered {
+    let mut gathered = Gathered { cells: [[0; CLASSES]; UNITS], counts: [0; 4], lacks: false };
+    for &[_, registration, reading] in rows {
+        let from = source(registration, reading);
+        gathered.counts[from] += 1;
+        let wh = match from {
+            ACTUAL | ESTIMATED => (reading & 0xff_ffff) as i64,
+            DEFAULTED => {
+                let shape = shapes[(registration >> 16 & 63) as usize];
+                gathered.lacks |= shape == u32::MAX;
+                i64::from(shape)
+            }
+            _ => continue,
+        };
+        let unit = if registration >> 10 & 1 == 1 { registration >> 11 & 31 } else { registration >> 5 & 31 };
+        let estimate = u64::from(from != ACTUAL);
+        let class = 8 * (registration & 3) + (registration & 4) + 2 * estimate;
+        let cells = &mut gathered.cells[unit as usize];
+        cells[class as usize] += wh;
+        cells[class as usize + 1] += ((registration >> 22) as i64 - 1_000) * wh;
+    }
+    gathered
+}
+
+/// Halves go away from zero.
+fn nearest(thousandths: i64) -> i64 {
+    (thousandths + if thousandths < 0 { -500 } else { 500 }) / 1_000
+}
+
+pub fn allocate_formed(settings: &Settings, rows: &[u64], volumes: &mut [i64]) -> Allocated {
+    let Some(volumes) = volumes.first_chunk_mut::<UNITS>() else {
+        return refused(VOLUMES_SHORT);
+    };
+    if !settings.take_set {
+        return refused(TAKE_UNSET);
+    }
+    let gathered = gather(used(rows, settings.meters), &settings.shapes);
+    if gathered.lacks {
+        return refused(SHAPE_MISSING);
+    }
+    let mut nets = [0; UNITS];
+    let mut weighted = [0; UNITS];
+    for (unit, cells) in gathered.cells.iter().enumerate() {
+        for (class, &cell) in cells.iter().enumerate() {
+            let whole = if class % 2 == 1 { nearest(cell) } else { cell };
+            nets[unit] += if class & 4 == 0 { whole } else { -whole };
+            weighted[unit] += whole * i64::from(settings.weights[class]);
+        }
+    }
+    let u = settings.take_wh - nets.iter().sum::<i64>();
+    let w = weighted.iter().sum::<i64>();
+    if w < 1 {
+        return refused(WEIGHTED_BELOW_ONE);
+    }
+    if u.unsigned_abs() * 1_000_000 > u64::from(settings.tolerance) * w as u64 {
+        return refused(TOLERANCE_EXCEEDED);
+    }
+    apportion(settings.take_wh, u, w, &nets, &weighted, volumes);
+    let [actual, estimated, defaulted, idle] = gathered.counts;
+    Allocated { number: ACCEPTED, unallocated: u, weighted: w, actual, estimated, defaulted, idle }
+}
+
+fn apportion(take: i64, u: i64, w: i64, nets: &[i64; UNITS], weighted: &[i64; UNITS], volumes: &mut [i64; UNITS]) {
+    let mut order = [(0i64, 0usize); UNITS];
+    for unit in 0..UNITS {
+        let product = i128::from(u) * i128::from(weighted[unit]);
+        let floor = product.div_euclid(i128::from(w));
+        volumes[unit] = nets[unit] + floor as i64;
+        order[unit] = (-((product - floor * i128::from(w)) as i64), unit);
+    }
+    let lack = (take - volumes.iter().sum::<i64>()) as usize;
+    order.sort_unstable();
+    for &(_, unit) in &order[..lack] {
+        volumes[unit] += 1;
+    }
+}

@@ -1,0 +1,106 @@
+//! Times the proved library beside a Rust version written for speed: in one process, on the same inputs, in turn. Every outcome is
+//! compared as it runs. `--help` prints the command line.
+
+mod fast;
+mod inputs;
+mod measure;
+mod operations;
+mod plot;
+mod report;
+mod sides;
+
+use std::env;
+use std::fs;
+use std::path::{Path, PathBuf};
+use std::process::ExitCode;
+
+use inputs::Random;
+use measure::{measure, Measured};
+
+const USAGE: &str = "\
+benchmark: times the proved library beside a Rust version, at 1,024, 8,192 and 65,536 meters
+  --docs FOLDER  also write the figures into FOLDER/BENCHMARKS.md and draw FOLDER/benchmarks.svg
+  --only WORDS   only the operations whose names have these words in them
+  --most N       only up to N meters
+  --help         print this
+Exit status: 0 done, both sides always agreed; 2 bad usage, or the document cannot be written.";
+
+/// Every run draws the same half hours.
+const SEED: u64 = 20_240_401;
+
+#[derive(Default)]
+struct Options {
+    docs: Option<PathBuf>,
+    only: Option<String>,
+    most: Option<usize>,
+}
+
+impl Options {
+    fn of(mut words: impl Iterator<Item = String>) -> Result<Options, String> {
+        let mut options = Options::default();
+        while let Some(word) = words.next() {
+            let value = words.next().ok_or(format!("{word} needs a value, or is unknown"))?;
+            match word.as_str() {
+                "--docs" => options.docs = Some(PathBuf::from(value)),
+                "--only" => options.only = Some(value),
+                "--most" => options.most = Some(value.parse().map_err(|_| format!("{word} {value}: no number"))?),
+                _ => return Err(format!("{word} is unknown")),
+            }
+        }
+        if options.docs.is_some() && (options.only.is_some() || options.most.is_some()) {
+            return Err("the document has all operations at all sizes: --docs goes without --only and --most".into());
+        }
+        Ok(options)
+    }
+
+    fn wants(&self, name: &str) -> bool {
+        self.only.as_ref().is_none_or(|words| name.contains(words.as_str()))
+    }
+}
+
+fn measure_all(options: &Options) -> Vec<Measured> {
+    let mut all = Vec::new();
+    println!("{:36} {:>7} {:>9} {:>9} {:>6}", "operation", "meters", "library", "Rust", "ratio");
+    for meters in report::SIZES.into_iter().filter(|meters| *meters <= options.most.unwrap_or(usize::MAX)) {
+        for operation in operations::all(meters, &mut Random(SEED)) {
+            if options.wants(operation.name) {
+                let measured = measure(&operation, meters);
+                println!("{}", report::line(&measured));
+                all.push(measured);
+            }
+        }
+    }
+    report::by_operation(all)
+}
+
+fn write_document(folder: &Path, all: &[Measured]) -> Result<(), String> {
+    let path = folder.join("BENCHMARKS.md");
+    let document = fs::read_to_string(&path).map_err(|fault| format!("{}: {fault}", path.display()))?;
+    let written = report::into_document(&document, all)?;
+    fs::write(&path, written).map_err(|fault| format!("{}: {fault}", path.display()))?;
+    let plot = folder.join("benchmarks.svg");
+    fs::write(&plot, plot::svg(all)).map_err(|fault| format!("{}: {fault}", plot.display()))
+}
+
+fn run() -> Result<(), String> {
+    let options = Options::of(env::args().skip(1))?;
+    let all = measure_all(&options);
+    match &options.docs {
+        Some(folder) => write_document(folder, &all),
+        None => Ok(()),
+    }
+}
+
+fn main() -> ExitCode {
+    if env::args().any(|word| word == "--help") {
+        println!("{USAGE}");
+        return ExitCode::SUCCESS;
+    }
+    match run() {
+        Ok(()) => ExitCode::SUCCESS,
+        Err(fault) => {
+            eprintln!("{fault}\n{USAGE}");
+            ExitCode::from(2)
+        }
+    }
+}

@@ -1,0 +1,118 @@
+//! The table, as it is printed and as it stands in docs/BENCHMARKS.md.
+
+use std::fs;
+use std::process::Command;
+
+use crate::measure::Measured;
+
+pub const SIZES: [usize; 3] = [1_024, 8_192, 65_536];
+
+/// Everything between these lines is written anew by each run; the rest of the document is kept.
+const START: &str = "<!-- figures: written by the benchmark -->";
+const END: &str = "<!-- end of figures -->";
+
+/// Three digits that count, in the unit that suits.
+pub fn seconds(time: f64) -> String {
+    let (value, unit) = match time {
+        t if t < 1e-3 => (t * 1e6, "µs"),
+        t if t < 1.0 => (t * 1e3, "ms"),
+        t => (t, "s"),
+    };
+    let decimals = match value {
+        v if v < 10.0 => 2,
+        v if v < 100.0 => 1,
+        _ => 0,
+    };
+    format!("{value:.decimals$} {unit}")
+}
+
+pub fn grouped(number: usize) -> String {
+    if number < 1_000 {
+        return number.to_string();
+    }
+    format!("{},{:03}", grouped(number / 1_000), number % 1_000)
+}
+
+pub fn line(m: &Measured) -> String {
+    format!(
+        "{:36} {:>7} {:>9} {:>9} {:>6.2}",
+        m.name,
+        grouped(m.meters),
+        seconds(m.library),
+        seconds(m.rust),
+        m.ratio()
+    )
+}
+
+fn first_line(program: &str, argument: &str) -> String {
+    let unknown = || format!("{program}: unknown");
+    let Ok(output) = Command::new(program).arg(argument).output() else {
+        return unknown();
+    };
+    let text = String::from_utf8_lossy(&output.stdout);
+    text.lines().next().map_or_else(unknown, str::to_string)
+}
+
+fn processor() -> String {
+    let text = fs::read_to_string("/proc/cpuinfo").unwrap_or_default();
+    let name = text.lines().find_map(|line| line.strip_prefix("model name")).unwrap_or(": unknown");
+    name.trim_start_matches([' ', '\t', ':']).to_string()
+}
+
+fn machine() -> String {
+    let count = std::thread::available_parallelism().map_or(0, usize::from);
+    format!(
+        "Machine: {}, {count} processors. Rust: {}, `--release` with `opt-level = 3`, `lto` and one codegen unit. Library: `{}`, \
+         `rt staticlib settlement`. Both for any x86-64 processor.\n",
+        processor(),
+        first_line("rustc", "--version"),
+        first_line("rt", "version"),
+    )
+}
+
+fn times(all: &[Measured]) -> String {
+    let mut text = String::from("| operation | meters | library | Rust | ratio |\n|---|---:|---:|---:|---:|\n");
+    for m in all {
+        let (library, rust) = (seconds(m.library), seconds(m.rust));
+        text += &format!("| {} | {} | {library} | {rust} | {:.2} |\n", m.name, grouped(m.meters), m.ratio());
+    }
+    text
+}
+
+/// How many times longer the library takes with eight times as many meters.
+fn growth(all: &[Measured]) -> String {
+    let mut text = String::from("| operation | 1,024 to 8,192 meters | 8,192 to 65,536 meters |\n|---|---:|---:|\n");
+    for of_one in all.chunk_by(|a, b| a.name == b.name) {
+        let times: Vec<f64> = of_one.iter().map(|m| m.library).collect();
+        if let [small, middle, large] = times[..] {
+            text += &format!("| {} | × {:.1} | × {:.1} |\n", of_one[0].name, middle / small, large / middle);
+        }
+    }
+    text
+}
+
+/// In the order of operations, each with its sizes.
+pub fn by_operation(all: Vec<Measured>) -> Vec<Measured> {
+    let mut names: Vec<&str> = Vec::new();
+    for m in &all {
+        if !names.contains(&m.name) {
+            names.push(m.name);
+        }
+    }
+    let mut all = all;
+    all.sort_by_key(|m| (names.iter().position(|name| *name == m.name), m.meters));
+    all
+}
+
+fn figures(all: &[Measured]) -> String {
+    let plot = "![Time against meters, for each operation](benchmarks.svg)\n";
+    format!("{START}\n{}\n{}\n{plot}\n{}{END}", machine(), times(all), growth(all))
+}
+
+/// Puts the figures into the document in place of the last ones.
+pub fn into_document(document: &str, all: &[Measured]) -> Result<String, String> {
+    let missing = "the document has no place for the figures";
+    let (before, rest) = document.split_once(START).ok_or(missing)?;
+    let (_, after) = rest.split_once(END).ok_or(missing)?;
+    Ok(format!("{before}{}{after}", figures(all)))
+}

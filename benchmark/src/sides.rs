@@ -1,0 +1,30 @@
+//! The two versions, under one table of functions.
+
+use crate::fast;
+use cepnhoy::{AllocationAnswer, Answer, Reading, Registration, Settings};
+
+type SettleList = fn(&mut [u64], &[u64], &mut [u64], &mut [i64]) -> AllocationAnswer;
+
+pub struct Side {
+    pub register: fn(Settings, &mut [u64], u64, Registration) -> Answer,
+    pub record_reading: fn(Settings, &mut [u64], u64, Reading) -> Answer,
+    pub allocate: fn(Settings, &[u64], &mut [i64]) -> AllocationAnswer,
+    pub make_calls: fn(Settings, &mut [u64], &[u64], &mut [u64]) -> Answer,
+    pub settle_list: SettleList,
+}
+
+pub static LIBRARY: Side = Side {
+    register: cepnhoy::register,
+    record_reading: cepnhoy::record_reading,
+    allocate: cepnhoy::allocate,
+    make_calls: cepnhoy::make_calls,
+    settle_list: cepnhoy::settle_list,
+};
+
+pub static RUST: Side = Side {
+    register: fast::register,
+    record_reading: fast::record_reading,
+    allocate: fast::allocate,
+    make_calls: fast::make_calls,
+    settle_list: fast::settle_list,
+};
