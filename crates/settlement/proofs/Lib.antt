@@ -21,5 +21,6 @@ pub mod MadeApart
 -- whole lists
 pub mod Meant
 pub mod Moved
+pub mod Moves
 pub mod Settles
 pub mod HalfHour
