@@ -8,9 +8,10 @@ use lib.ListN.{length, getD, length-map}
 use lib.Signed.{_<ℤ_}
 use Rattle.integers.specs.Sum.{sum}
 use Rattle.integers.specs.Quotient.{floorOf}
+use Rattle.integers.proofs.Floor.{fraction-below}
 use Rattle.integers.proofs.Size.{size-plus, size-positive}
 use Rattle.allocation.specs.declared.UnitSums.{UnitSums}
-use Rattle.allocation.specs.Correction.{units, netIn, weightedIn, weightedTotal, shareFloor, shareFraction}
+use Rattle.allocation.specs.Correction.{units, netIn, weightedIn, weightedTotal, shareNumerator, shareFloor, shareFraction}
 use Rattle.allocation.specs.Volumes.{lackingWh, roundedVolumes, volumesFrom}
 use Rattle.allocation.specs.Contracts.{TotalArguments, ShareDownArguments, SharedDown, HandOutArguments, ApportionArguments}
 use Rattle.allocation.proofs.Entries.{entry-map, by-place}
@@ -44,12 +45,15 @@ module _ {takeWh u w : ℤ} {nets weighted part : List ℤ} (given : ApportionAr
     floors-long : length floors ≡ units
     floors-long = long (shareFloor u w) floors-are
 
+    fractions-are : fractions ≡ map (shareFraction u w) (given .sums)
+    fractions-are = shared .fractions-are (given .sums) (given .nets-are) (given .weighted-are)
+
     fractions-long : length fractions ≡ units
-    fractions-long = long (shareFraction u w) (shared .fractions-are (given .sums) (given .nets-are) (given .weighted-are))
+    fractions-long = long (shareFraction u w) fractions-are
 
     -- an entry, by its unit
-    entry : (f : UnitSums → ℤ) {xs : List ℤ} → xs ≡ map f (given .sums) → (k : ℕ) → k < units → getD xs k (pos 0) ≡ f (getD (given .sums) k noSums)
-    entry f e k h = ap (λ (xs : List ℤ). getD xs k (pos 0)) e ∙ entry-map f (given .sums) k noSums (pos 0) (omega (arith, given .sums-long))
+    entry : {A : Type 0} (f : UnitSums → A) (none : A) {xs : List A} → xs ≡ map f (given .sums) → (k : ℕ) → k < units → getD xs k none ≡ f (getD (given .sums) k noSums)
+    entry f none e k h = ap (λ xs. getD xs k none) e ∙ entry-map f (given .sums) k noSums none (omega (arith, given .sums-long))
 
     floors-bound : (k : ℕ) → natAbs (getD floors k (pos 0)) ≤ 1401400000000000
     floors-bound =
@@ -59,14 +63,20 @@ module _ {takeWh u w : ℤ} {nets weighted part : List ℤ} (given : ApportionAr
         let tolerance = given .within-tolerance in
         omega (
           arith,
-          ap natAbs (entry (shareFloor u w) floors-are k h ∙ share-split u w x (given .w-positive)),
+          ap natAbs (entry (shareFloor u w) (pos 0) floors-are k h ∙ share-split u w x (given .w-positive)),
           size-plus (x .net) (floorOf (u *ℤ x .weighted) (natAbs w)),
           quotient-most u (x .weighted) w (size-positive w (given .w-positive)) (omega arith),
-          ap natAbs (entry netIn (given .nets-are) k h),
-          ap natAbs (entry weightedIn (given .weighted-are) k h),
+          ap natAbs (entry netIn (pos 0) (given .nets-are) k h),
+          ap natAbs (entry weightedIn (pos 0) (given .weighted-are) k h),
           given .nets-bound k,
           given .weighted-bound k,
         ))
+
+    fractions-bound : (k : ℕ) → k < units → getD fractions k 0 ≤ 1400000000000000
+    unfolding shareFraction
+    fractions-bound k h =
+        let x = getD (given .sums) k noSums in
+        omega (arith, entry (shareFraction u w) 0 fractions-are k h, fraction-below (shareNumerator u w x) (natAbs w) (size-positive w (given .w-positive)), given .w-bound)
 
     pub total-arguments : TotalArguments floors
     total-arguments = record { few = omega (arith, floors-long); each-bound = λ k. omega (arith, floors-bound k) }
@@ -86,7 +96,13 @@ module _ {takeWh u w : ℤ} {nets weighted part : List ℤ} (given : ApportionAr
 
     pub hand-arguments : HandOutArguments floors fractions (lackingWh takeWh floors)
     hand-arguments =
-        record { volumes-long = floors-long; fractions-long = fractions-long; lack-few = omega (arith, lack-few); volumes-bound = λ k. omega (arith, floors-bound k) }
+        record {
+          volumes-long = floors-long;
+          fractions-long = fractions-long;
+          lack-few = omega (arith, lack-few);
+          fractions-bound = fractions-bound;
+          volumes-bound = λ k. omega (arith, floors-bound k);
+        }
 
     pub volumes-given : (sums : List UnitSums) → nets ≡ map netIn sums → weighted ≡ map weightedIn sums
         → roundedVolumes (lackingWh takeWh floors) fractions 0 floors fractions ≡ volumesFrom takeWh u w sums

@@ -21,6 +21,7 @@ pub mod Bounds
 pub mod Quotients
 pub mod CountWhere
 pub mod Ranked
+pub mod Keys
 pub mod HandedOut
 pub mod Served
 pub mod RoundedVolumes

@@ -137,11 +137,25 @@ pub record SharedDown (u w : ℤ) (nets weighted floors : List ℤ) (fractions :
   pub floors-are : (sums : List UnitSums) → nets ≡ map netIn sums → weighted ≡ map weightedIn sums → floors ≡ map (shareFloor u w) sums
   pub fractions-are : (sums : List UnitSums) → nets ≡ map netIn sums → weighted ≡ map weightedIn sums → fractions ≡ map (shareFraction u w) sums
 
+-- a unit's key in the order of handing out: the larger fraction has the larger key, and of equal fractions the lower unit number
+abbrev pub orderKey : ℕ → ℕ → ℕ
+orderKey unit fraction = 32 * fraction + (31 - unit)
+
+-- what `order_keys` is held to: fractions of a W as an allocation has it
+pub record OrderKeysArguments (fractions keys : List ℕ) : Type 0 where
+  pub keys-long : length keys ≡ units
+  pub fractions-bound : (k : ℕ) → k < units → getD fractions k 0 ≤ 1400000000000000
+
+-- what `order_keys` gives: the key of each unit
+pub record OrderKeys (fractions keys : List ℕ) : Type 0 where
+  pub each-is : (k : ℕ) → k < units → getD keys k 0 ≡ orderKey k (getD fractions k 0)
+
 -- what `hand_out` is held to
 pub record HandOutArguments (volumes : List ℤ) (fractions : List ℕ) (lack : ℕ) : Type 0 where
   pub volumes-long : length volumes ≡ units
   pub fractions-long : length fractions ≡ units
   pub lack-few : lack ≤ units
+  pub fractions-bound : (k : ℕ) → k < units → getD fractions k 0 ≤ 1400000000000000
   pub volumes-bound : (k : ℕ) → natAbs (getD volumes k (pos 0)) ≤ 1000000000000000000
 
 -- what `exceeds_tolerance` is held to

@@ -1,8 +1,9 @@
 // From the units' sums to their volumes: shares rounded down, and the last watt-hours.
 use integers::share_quotient;
 ghost use mathlib.Core.Path.{_≡_};
-ghost use Rattle.allocation.specs.Volumes.{comesBefore, roundedVolumes};
-ghost use Rattle.allocation.specs.Contracts.{ShareDownArguments, SharedDown, HandOutArguments};
+ghost use Prim.Native.Nat.{_≤_, _<_};
+ghost use Rattle.allocation.specs.Volumes.{roundedVolumes};
+ghost use Rattle.allocation.specs.Contracts.{ShareDownArguments, SharedDown, orderKey, OrderKeysArguments, OrderKeys, HandOutArguments};
 
 // Each unit's share rounded down, and its fraction times W.
 pub fn share_down(
@@ -26,11 +27,25 @@ pub fn share_down(
     }
 }
 
-// Whether unit j, of fraction g, comes before unit i, of fraction f.
-fn comes_before(i: usize, f: u64, j: usize, g: u64) -> bool
-    ensures { λ r. ⌜ r ≡ comesBefore i f j g ⌝ }
+// A unit's key in the order of handing out: the larger fraction has the larger key, and of equal fractions the lower unit number.
+fn order_key(unit: usize, fraction: u64) -> u64
+    requires { ⌜ unit < 32 ⌝ ∗ ⌜ fraction ≤ 1400000000000000 ⌝ }
+    ensures { λ r. ⌜ r ≡ orderKey unit fraction ⌝ }
 {
-    (f < g) | ((f == g) & (j < i))
+    32 * fraction + (31 - unit as u64)
+}
+
+// The keys of the 32 units.
+fn order_keys(fractions: &[u64; 32], keys: &mut [u64; 32])
+    requires { ⌜ OrderKeysArguments (now fractions) (now keys) ⌝ }
+    ensures { λ r. ⌜ OrderKeys (now (fractions .entry)) (now (keys .exit)) ⌝ }
+{
+    let mut unit = 0;
+    while unit < 32 {
+        let key = order_key(unit, fractions[unit]);
+        keys[unit] = key;
+        unit += 1;
+    }
 }
 
 // Hands out the Wh that lack, one each to the units that fewer than `lack` units come before, until none lack.
@@ -38,6 +53,8 @@ pub fn hand_out(volumes: &mut [i64], fractions: &[u64; 32], lack: u64)
     requires { ⌜ HandOutArguments (now volumes) (now fractions) lack ⌝ }
     ensures { λ r. ⌜ now (volumes .exit) ≡ roundedVolumes lack (now (fractions .entry)) 0 (now (volumes .entry)) (now (fractions .entry)) ⌝ }
 {
+    let mut keys = [0u64; 32];
+    order_keys(fractions, &mut keys);
     let mut left = lack;
     let mut unit = 0;
     'units: while unit < 32 {
@@ -48,7 +65,7 @@ pub fn hand_out(volumes: &mut [i64], fractions: &[u64; 32], lack: u64)
             if left == 0 {
                 break 'units;
             }
-            if comes_before(unit, fractions[unit], other, fractions[other]) {
+            if keys[unit] < keys[other] {
                 before += 1;
             }
             other += 1;

@@ -3,17 +3,12 @@ use crate::UnitSums;
 use integers::nearest_wh;
 ghost use mathlib.Core.Path.{_≡_};
 ghost use Prim.Native.Nat.{_<_, _^_};
+ghost use mathlib.Core.List.{[]};
 ghost use lib.IntN.{pos, natAbs};
+ghost use lib.ListN.{getD};
 ghost use Rattle.integers.specs.Sum.{sum};
 ghost use Rattle.allocation.specs.Correction.{byDirection};
-ghost use Rattle.allocation.specs.Contracts.{wholeCell, sumsOf, UnitArguments, AllUnitsArguments, AllUnits, TotalArguments};
-
-// A cell as it counts: a loss rounded to whole Wh, a consumption as it is.
-fn whole_cell(class: usize, raw: i64) -> i64
-    ensures { λ r. ⌜ r ≡ wholeCell class raw ⌝ }
-{
-    if class % 2 == 1 { nearest_wh(raw) } else { raw }
-}
+ghost use Rattle.allocation.specs.Contracts.{sumsOf, UnitArguments, AllUnitsArguments, AllUnits, TotalArguments};
 
 // A cell as it counts in n: import as it is, export negated.
 fn by_direction(class: usize, c: i64) -> i64
@@ -30,20 +25,21 @@ fn signed(x: u32) -> i64
     x as i64
 }
 
-// n and a of a unit, from its cells before rounding and the weights.
-pub fn unit_sums(cells: [i64; 24], weights: &[u32; 24]) -> UnitSums
-    requires { ⌜ UnitArguments cells (now weights) ⌝ }
-    ensures { λ r. ⌜ r ≡ sumsOf cells (now (weights .entry)) ⌝ }
+// n and a of a unit, from its cells before rounding and the weights. The classes go in pairs of one direction: consumption, and its losses.
+pub fn unit_sums(cells: &[[i64; 24]; 32], unit: usize, weights: &[u32; 24]) -> UnitSums
+    requires { ⌜ unit < 32 ⌝ ∗ ⌜ UnitArguments (getD (now cells) unit []) (now weights) ⌝ }
+    ensures { λ r. ⌜ r ≡ sumsOf (getD (now (cells .entry)) unit []) (now (weights .entry)) ⌝ }
 {
     let mut net = 0;
     let mut weighted = 0;
     let mut class = 0;
     while class < 24 {
-        let c = whole_cell(class, cells[class]);
-        let directed = by_direction(class, c);
-        net += directed;
-        weighted += c * signed(weights[class]);
-        class += 1;
+        let used = cells[unit][class];
+        let lost = nearest_wh(cells[unit][class + 1]);
+        net += by_direction(class, used + lost);
+        weighted += used * signed(weights[class]);
+        weighted += lost * signed(weights[class + 1]);
+        class += 2;
     }
     UnitSums { net, weighted }
 }
@@ -60,7 +56,7 @@ pub fn all_units(
 {
     let mut unit = 0;
     while unit < 32 {
-        let sums = unit_sums(cells[unit], weights);
+        let sums = unit_sums(cells, unit, weights);
         let net = sums.net;
         let sum = sums.weighted;
         nets[unit] = net;

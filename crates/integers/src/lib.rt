@@ -23,19 +23,14 @@ pub fn floor_quotient(x: i64, d: i64) -> i64
     if x < 0 { -1 - (-1 - x) / d } else { x / d }
 }
 
-// Thousandths of a Wh as whole Wh: the nearest, halves away from zero.
+// Thousandths of a Wh as whole Wh: the nearest, halves away from zero. Halves are counted first, so that no sum leaves the range,
+// and one more of the same sign is added without a branch: the processor could not guess the signs of losses.
 pub fn nearest_wh(thousandths: i64) -> i64
     ensures { λ r. ⌜ r ≡ nearestWh thousandths ⌝ }
 {
-    let whole = thousandths / 1000;
-    let left = thousandths % 1000;
-    if 500 <= left {
-        return whole + 1;
-    }
-    if left <= -500 {
-        return whole - 1;
-    }
-    whole
+    let halves = thousandths / 500;
+    let away = if thousandths < 0 { -1 } else { 1 };
+    (halves + away) / 2
 }
 
 // A quotient of two numbers without a sign, and what is left.
@@ -63,6 +58,20 @@ fn next_digit(done: Division, digit: u64, n: u64, w: u64) -> Division
     }
 }
 
+// How many digits of m in base 2,048 there are to take: those above are 0. A U of up to 4,194,303 Wh has two.
+fn digits(m: u64) -> u64
+    requires { ⌜ m ≤ 1400000000000 ⌝ }
+    ensures { λ r. ⌜ r ≤ 4 ⌝ ∗ ⌜ m / 2 ^ (11 * r) ≡ 0 ⌝ }
+{
+    if m < 2048 {
+        return 1;
+    }
+    if m < 4194304 {
+        return 2;
+    }
+    4
+}
+
 // m × n / w. The product can pass 10^27, so it is never formed: the digits of m in base 2,048 are taken one at a time, the highest first.
 fn product_quotient(m: u64, n: u64, w: u64) -> Division
     requires { ⌜ m ≤ 1400000000000 ⌝ ∗ ⌜ n ≤ 1400000000000000 ⌝ ∗ ⌜ 0 < w ⌝ ∗ ⌜ w ≤ 1400000000000000 ⌝ ∗ ⌜ m * n / w < 2 ^ 64 ⌝ }
@@ -72,7 +81,7 @@ fn product_quotient(m: u64, n: u64, w: u64) -> Division
         quotient: 0,
         remainder: 0,
     };
-    let mut i: u64 = 4;
+    let mut i = digits(m);
     while 0 < i {
         i -= 1;
         done = next_digit(done, (m >> (11 * i)) % 2048, n, w);

@@ -1,106 +1,91 @@
--- `nearest_wh` meets its contract, by the sign: the quotient is toward zero, so what is left has the sign of the thousandths.
-use mathlib.Core.Path.{_≡_}
-use Prim.Native.Nat.{suc, _+_, _/_, _%_}
-use lib.IntN.{ℤ, pos, negsuc, negℤ, _+ℤ_, _-ℤ_}
-use lib.Signed.{_≤ℤ_, _<ℤ_, quotZ, remZ, natAbs-le}
+-- `nearest_wh` meets its contract, by the sign: both quotients are toward zero, so that half a Wh more of the same sign goes away from it.
+use mathlib.Core.Path.{_≡_, ap, _∙_}
+use mathlib.Core.Logic.{⊎-elim}
+use Prim.Native.Nat.{ℕ, suc, _+_, _/_, _≤_}
+use lib.IntN.{ℤ, pos, negsuc, negℤ, natAbs, _+ℤ_}
+use lib.Signed.{_≤ℤ_, _<ℤ_, quotZ, natAbs-le}
 use lib.Dec.{lit<}
+use native.Mathlib.Omega.{arith}
 use mir.Syntax.{w64}
 use mir.Val.{SFits, toZ, ofZ}
 use mir.ValLaws.{toZ-ofZ}
 use Rattle.integers.specs.Rounding.{nearestWh}
-use Rattle.integers.proofs.Linear.{linear, plus, minus, opposite, size}
-use Rattle.integers.proofs.Order.{le-true, le-false}
+use Rattle.integers.proofs.Linear.{linear, plus, opposite, size}
+use Rattle.integers.proofs.Fit.{Held, held, held-literal, plus-fits, plus-held, tested-lt, tested-ge}
 use Rattle.integers.proofs.Nearest.{nearest-size}
 use Rattle.integers.proofs.nearest_wh.Statement.{statement}
 use Rattle.integers.proofs.nearest_wh.Tie as tie
 
--- half a Wh or more is left above zero; below zero; on neither side
-up : (t : ℤ) → pos 500 ≤ℤ remZ t (pos 1000) → quotZ t (pos 1000) +ℤ pos 1 ≡ nearestWh t
+-- halves of a Wh, and one of the same sign
+abbrev halves : ℤ → ℤ
+halves t = quotZ t (pos 500)
+
+abbrev away : ℤ → ℤ
+away (pos n) = pos 1
+away (negsuc n) = negsuc 0
+
+-- as the code holds it
+away-below : (t : ℤ) (a : ℕ) → t <ℤ pos 0 → a ≡ ofZ w64 (negsuc 0) → Held a (away t) 1
+away-below (pos n) a s e = absurd (omega linear)
+away-below (negsuc n) a s e = rw e (held (negsuc 0) 1 (omega arith) (lit< tt))
+
+away-above : (t : ℤ) (a : ℕ) → pos 0 ≤ℤ t → a ≡ 1 → Held a (away t) 1
+away-above (pos n) a s e = rw e (held-literal 1 (lit< tt))
+away-above (negsuc n) a s e = absurd (omega linear)
+
+one-down : (a : ℕ) → negℤ (pos a) +ℤ negsuc 0 ≡ negsuc a
+one-down a = omega (linear, plus (negℤ (pos a)) (negsuc 0), opposite (pos a))
+
+rounded : (t : ℤ) → quotZ (halves t +ℤ away t) (pos 2) ≡ nearestWh t
 unfolding nearestWh
-up (pos n) h = omega (linear, plus (pos (n / 1000)) (pos 1))
-up (negsuc n) h = absurd (omega (linear, opposite (pos (suc n % 1000))))
+rounded (pos n) = let e : (n / 500 + 1) / 2 ≡ (n + 500) / 1000 = omega arith in ap pos e
+rounded (negsuc n) =
+    let e : suc (suc n / 500) / 2 ≡ (suc n + 500) / 1000 = omega arith in
+    ap (λ z. quotZ z (pos 2)) (one-down (suc n / 500)) ∙ ap (λ k. negℤ (pos k)) e
 
-down : (t : ℤ) → remZ t (pos 1000) ≤ℤ negsuc 499 → quotZ t (pos 1000) -ℤ pos 1 ≡ nearestWh t
-unfolding nearestWh
-down (pos n) h = absurd (omega linear)
-down (negsuc n) h =
-    omega (linear, minus (negℤ (pos (suc n / 1000))) (pos 1), opposite (pos (suc n % 1000)), opposite (pos (suc n / 1000)), opposite (pos ((suc n + 500) / 1000)))
-
-here : (t : ℤ) → remZ t (pos 1000) <ℤ pos 500 → negsuc 499 <ℤ remZ t (pos 1000) → quotZ t (pos 1000) ≡ nearestWh t
-unfolding nearestWh
-here (pos n) h k = omega linear
-here (negsuc n) h k = omega (linear, opposite (pos (suc n % 1000)), opposite (pos (suc n / 1000)), opposite (pos ((suc n + 500) / 1000)))
-
--- the values on the way are in range
-quotient-fits : (t : ℤ) → SFits w64 t → SFits w64 (quotZ t (pos 1000))
-quotient-fits (pos n) f = omega linear
-quotient-fits (negsuc n) f = omega (linear, opposite (pos (suc n / 1000)))
-
-left-fits : (t : ℤ) → SFits w64 t → SFits w64 (remZ t (pos 1000))
-left-fits (pos n) f = omega linear
-left-fits (negsuc n) f = omega (linear, opposite (pos (suc n % 1000)))
+halves-size : (t : ℤ) → SFits w64 t → natAbs (halves t) ≤ 18446744073709552
+halves-size (pos n) f = omega linear
+halves-size (negsuc n) f = omega (linear, size (negℤ (pos (suc n / 500))), opposite (pos (suc n / 500)))
 
 nearest-fits : (t : ℤ) → SFits w64 t → SFits w64 (nearestWh t)
 nearest-fits t f = omega (linear, size (nearestWh t), nearest-size t, natAbs-le t (f .sfits))
 
--- and are read back from their bits
-module _ (t : ℤ) (f : SFits w64 t) where
-  whole-is : toZ w64 (ofZ w64 (quotZ (toZ w64 (ofZ w64 t)) (pos 1000))) ≡ quotZ t (pos 1000)
-  whole-is = rw (toZ-ofZ w64 t f) (toZ-ofZ w64 _ (quotient-fits t f))
+halves-held : (t : ℤ) → SFits w64 t → Held (ofZ w64 (quotZ (toZ w64 (ofZ w64 t)) (pos 500))) (halves t) 18446744073709552
+halves-held t f = rw (toZ-ofZ w64 t f) (held (halves t) 18446744073709552 (halves-size t f) (lit< tt))
 
-  left-is : toZ w64 (ofZ w64 (remZ (toZ w64 (ofZ w64 t)) (pos 1000))) ≡ remZ t (pos 1000)
-  left-is = rw (toZ-ofZ w64 t f) (toZ-ofZ w64 _ (left-fits t f))
+halves-fit : (t : ℤ) → SFits w64 t → SFits w64 (halves t)
+halves-fit (pos n) f = omega linear
+halves-fit (negsuc n) f = omega (linear, opposite (pos (suc n / 500)))
 
-  result-is : toZ w64 (ofZ w64 (nearestWh t)) ≡ nearestWh t
-  result-is = toZ-ofZ w64 _ (nearest-fits t f)
+div-halves : tie.Need-div-halves
+div-halves c = (lit< tt, rw (toZ-ofZ w64 (c .args .thousandths) (c .fits .thousandths)) (halves-fit _ (c .fits .thousandths)))
 
-div-whole : tie.Need-div-whole
-div-whole c = (lit< tt, rw (toZ-ofZ w64 (c .args .thousandths) (c .fits .thousandths)) (quotient-fits _ (c .fits .thousandths)))
+-- what is held on the way
+module _ (c : tie.Joined1) where
+  abbrev t : ℤ
+  t = c .before .args .thousandths
 
-rem-left : tie.Need-rem-left
-rem-left c = div-whole c
+  fits : SFits w64 t
+  fits = c .before .fits .thousandths
 
--- what each arm gives
-module _ (c : tie.Then1) where
-  upward : quotZ (c .before .args .thousandths) (pos 1000) +ℤ pos 1 ≡ nearestWh (c .before .args .thousandths)
-  upward =
-      let t = c .before .args .thousandths in
-      up t (omega (linear, le-true (pos _) (remZ t (pos 1000)) (rw (left-is t (c .before .fits .thousandths)) at (c .if1 .taken))))
+  away-held : Held (c .if1 .away) (away t) 1
+  away-held =
+      ⊎-elim
+      (λ w. away-below t _ (tested-lt t (pos 0) fits (w .0 .taken)) (w .1))
+      (λ w. away-above t _ (tested-ge t (pos 0) fits (w .0 .left)) (w .1))
+      (c .if1 .came)
 
-module _ (c : tie.Then2) where
-  downward : quotZ (c .before .before .args .thousandths) (pos 1000) -ℤ pos 1 ≡ nearestWh (c .before .before .args .thousandths)
-  downward =
-      let t = c .before .before .args .thousandths in
-      down t (omega (linear, le-true (remZ t (pos 1000)) _ (rw (left-is t (c .before .before .fits .thousandths)) at (c .if2 .taken))))
+  sum-is : toZ w64 (ofZ w64 (toZ w64 (ofZ w64 (quotZ (toZ w64 (ofZ w64 t)) (pos 500))) +ℤ toZ w64 (c .if1 .away))) ≡ halves t +ℤ away t
+  sum-is = plus-held (halves-held t fits) away-held (lit< tt) .reads
 
 add-result : tie.Need-add-result
-add-result c =
-    let f = c .before .fits .thousandths in
-    rw (whole-is _ f, upward c) (nearest-fits _ f)
+add-result c = plus-fits (halves-held (t c) (fits c)) (away-held c) (lit< tt)
+
+div-result : tie.Need-div-result
+div-result c = (lit< tt, rw (sum-is c, rounded (t c)) (nearest-fits _ (fits c)))
 
 returns : tie.Need-returns
-returns c =
-    let f = c .before .fits .thousandths in
-    rw (whole-is _ f, upward c) (result-is _ f)
-
-sub-result : tie.Need-sub-result
-sub-result c =
-    let f = c .before .before .fits .thousandths in
-    rw (whole-is _ f, downward c) (nearest-fits _ f)
-
-returns-2 : tie.Need-returns-2
-returns-2 c =
-    let f = c .before .before .fits .thousandths in
-    rw (whole-is _ f, downward c) (result-is _ f)
-
-returns-3 : tie.Need-returns-3
-returns-3 c =
-    let t = c .before .before .args .thousandths in
-    let f = c .before .before .fits .thousandths in
-    let low = le-false (pos _) (remZ t (pos 1000)) (rw (left-is t f) at (c .before .if1 .left)) in
-    let high = le-false (remZ t (pos 1000)) _ (rw (left-is t f) at (c .if2 .left)) in
-    rw (whole-is t f) (here t (omega (linear, low)) (omega (linear, high)))
+returns c = rw (sum-is c, rounded (t c)) (toZ-ofZ w64 _ (nearest-fits _ (fits c)))
 
 pub nearest-wh-spec : {M : Type 1} → statement M
-nearest-wh-spec =
-    tie.close (tie.spec div-whole rem-left add-result returns sub-result returns-2 returns-3)
+nearest-wh-spec = tie.close (tie.spec div-halves add-result div-result returns)

@@ -17,8 +17,8 @@ abbrev μ-loop : tie.MeasureT-loop
 μ-loop m n w done₀ i₀ done i = i
 
 -- no digit, and all of them
-no-digit : (m n w : ℕ) → m ≤ 1400000000000 → divisionOf 0 w ≡ divisionOf (m / 2 ^ 44 * n) w
-no-digit m n w h = let e : m / 2 ^ 44 ≡ 0 = omega arith in rw (e, zero-mul)
+no-digit : (m n w i : ℕ) → m / 2 ^ (11 * i) ≡ 0 → divisionOf 0 w ≡ divisionOf (m / 2 ^ (11 * i) * n) w
+no-digit m n w i e = rw (e, zero-mul)
 
 all-digits : (m n w i : ℕ) {done : Division} → i ≡ 0 → done ≡ divisionOf (m / 2 ^ (11 * i) * n) w → done ≡ divisionOf (m * n) w
 all-digits m n w i z e = e ∙ rw (z, div-one)
@@ -44,13 +44,18 @@ in-range m n w k h l = omega (arith, div-mono w h (mul-le-mul-right n (shr-le m 
 
 module _ (c : tie.In-loop Inv-loop μ-loop) where
   abbrev with-digit : ℕ
-  with-digit = c .before .before .args .m / 2 ^ (11 * (c .before .loop .i - 1))
+  with-digit = c .before .before .before .args .m / 2 ^ (11 * (c .before .loop .i - 1))
 
-  before-here : c .before .loop .done .quotient * c .before .before .args .w + c .before .loop .done .remainder ≡ with-digit / 2048 * c .before .before .args .n
+  before-here : c .before .loop .done .quotient * c .before .before .before .args .w + c .before .loop .done .remainder ≡ with-digit / 2048 * c .before .before .before .args .n
   before-here = before _ _ _ _ _ (c .loop-test .taken) (c .before .loop .inv .1)
 
+digits-requires : tie.Need-digits-requires Inv-loop μ-loop
+digits-requires c κs = c .pre .0
+
 loop-holds : tie.Need-loop-holds Inv-loop μ-loop
-loop-holds c = (omega arith, rw (zero-div, zero-mod) at (no-digit (c .args .m) (c .args .n) (c .args .w) (c .pre .0)))
+loop-holds c =
+    let a = c .before .args in
+    (c .digits .ensures .0, rw (zero-div, zero-mod) at (no-digit (a .m) (a .n) (a .w) (c .digits .result) (c .digits .ensures .1)))
 
 sub-i : tie.Need-sub-i Inv-loop μ-loop
 sub-i c = omega arith
@@ -63,7 +68,7 @@ shr-next-digit c = omega arith
 
 next-digit-requires : tie.Need-next-digit-requires Inv-loop μ-loop
 next-digit-requires c κs =
-    let a = c .before .before .args in
+    let a = c .before .before .before .args in
     let p = with-digit c in
     let left = division-left _ (a .w) (c .before .loop .inv .1) (omega arith) in
     let fits = in-range (a .m) (a .n) (a .w) (11 * (c .before .loop .i - 1)) (omega arith) (omega arith) in
@@ -74,12 +79,12 @@ loop-less c = omega arith
 
 loop-again : tie.Need-loop-again Inv-loop μ-loop
 loop-again c =
-    let a = c .before .before .before .args in
+    let a = c .before .before .before .before .args in
     let p = with-digit (c .before) in
     (omega arith, same-division _ (p * a .n) (a .w) (omega (arith, before-here (c .before), split p (a .n))) (c .next-digit .ensures))
 
 returns : tie.Need-returns Inv-loop μ-loop
-returns c = all-digits _ (c .before .before .args .n) _ (c .before .loop .i) (omega arith) (c .before .loop .inv .1)
+returns c = all-digits _ (c .before .before .before .args .n) _ (c .before .loop .i) (omega arith) (c .before .loop .inv .1)
 
 pub product-quotient-spec : {M : Type 1} → statement M
 product-quotient-spec =
@@ -87,6 +92,7 @@ product-quotient-spec =
     (tie.spec
     Inv-loop
     μ-loop
+    digits-requires
     loop-holds
     sub-i
     mul-next-digit

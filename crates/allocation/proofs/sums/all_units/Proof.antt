@@ -30,14 +30,8 @@ loop-holds c =
     let p = c .pre in
     (omega arith, (filled-none _ _ _ (p .nets-long ∙ sym (p .rows-long)), filled-none _ _ _ (p .weighted-long ∙ sym (p .rows-long))))
 
-mul-unit-sums : tie.Need-mul-unit-sums Inv-loop μ-loop
-mul-unit-sums c = omega arith
-
-element-copy-out-unit-sums : tie.Need-element-copy-out-unit-sums Inv-loop μ-loop
-element-copy-out-unit-sums c = omega arith
-
 unit-sums-requires : tie.Need-unit-sums-requires Inv-loop μ-loop
-unit-sums-requires c κs = c .before .before .before .pre .each (c .before .before .loop .unit) (omega arith)
+unit-sums-requires c κs = (omega arith, c .before .before .pre .each (c .before .loop .unit) (omega arith))
 
 mul-net : tie.Need-mul-net Inv-loop μ-loop
 mul-net c = omega arith
@@ -59,8 +53,8 @@ loop-less c = omega arith
 
 loop-again : tie.Need-loop-again Inv-loop μ-loop
 loop-again c =
-    let s = c .before .before .before .before .before .before in
-    let l = c .before .before .before .before .before .loop in
+    let s = c .before .before .before .before .before in
+    let l = c .before .before .before .before .loop in
     let r = c .before .before .unit-sums in
     let net = toZ-ofZ w64 (r .result .net) (record { sfits = c .struct-told2 .given .0 .1 }) in
     let sum = toZ-ofZ w64 (r .result .weighted) (record { sfits = c .struct-told2 .given .1 .0 .1 }) in
@@ -88,8 +82,6 @@ all-units-spec =
     Inv-loop
     μ-loop
     loop-holds
-    mul-unit-sums
-    element-copy-out-unit-sums
     unit-sums-requires
     mul-net
     element-set-from-net

@@ -1,7 +1,7 @@
--- `unit_sums` meets its contract. The loop's invariant: n and a are those of the cells passed.
-use Prim.Native.Nat.{ℕ, _+_, _-_, _*_, _≤_, _<_}
+-- `unit_sums` meets its contract. The loop's invariant: n and a are those of the cells passed, which are whole pairs.
+use Prim.Native.Nat.{ℕ, suc, _+_, _-_, _*_, _%_, _≤_, _<_}
 use mathlib.Core.Path.{_≡_}
-use mathlib.Core.List.{List}
+use mathlib.Core.List.{List, []}
 use native.Mathlib.Omega.{arith}
 use native.Mathlib.Numerals.{add-one}
 use lib.IntN.{ℤ, pos, natAbs, _+ℤ_, _*ℤ_}
@@ -13,7 +13,7 @@ use mir.ValLaws.{toZ-ofZ}
 use Rattle.integers.proofs.Fit.{Held, held, held-literal, plus-fits, plus-held, times-fits, times-held}
 use Rattle.allocation.specs.Correction.{byDirection, netOf, weightedOf}
 use Rattle.allocation.specs.Contracts.{roundedFrom, sumsOf, UnitArguments}
-use Rattle.allocation.proofs.RunningSums.{whole-length, whole-entry, net-next, weighted-next, direction-size}
+use Rattle.allocation.proofs.RunningSums.{whole-length, used-entry, lost-entry, net-next-pair, weighted-next, direction-size}
 use Rattle.allocation.proofs.sums.unit_sums.Statement.{statement}
 use Rattle.allocation.proofs.sums.unit_sums.Tie as tie
 
@@ -25,64 +25,76 @@ abbrev WeightedHeld : List ℤ → List ℕ → ℕ → ℕ → Type 0
 WeightedHeld cells weights i weighted = Held weighted (weightedOf (take i (roundedFrom 0 cells)) weights) (i * 655360000000000)
 
 abbrev Inv-loop : tie.InvT-loop
-Inv-loop weights cells net₀ weighted₀ class₀ net weighted class = (class ≤ 24) × (NetHeld cells class net × WeightedHeld cells weights class weighted)
+Inv-loop table unit weights net₀ weighted₀ class₀ net weighted class =
+    (class ≤ 24) × ((class % 2 ≡ 0) × (NetHeld (getD table unit []) class net × WeightedHeld (getD table unit []) weights class weighted))
 
 abbrev μ-loop : tie.MeasureT-loop
-μ-loop weights cells net₀ weighted₀ class₀ net weighted class = 24 - class
+μ-loop table unit weights net₀ weighted₀ class₀ net weighted class = 24 - class
 
--- a turn at class i, whose rounded cell is c
-record Turn (cells : List ℤ) (weights : List ℕ) (i net weighted : ℕ) (c : ℤ) : Type 0 where
+-- a cell of class k, rounded
+record Cell (cells : List ℤ) (weights : List ℕ) (k : ℕ) (c : ℤ) : Type 0 where
   args : UnitArguments cells weights
-  class-bound : i < 24
-  net-held : NetHeld cells i net
-  weighted-held : WeightedHeld cells weights i weighted
-  cell-is : c ≡ getD (roundedFrom 0 cells) i (pos 0)
+  class-bound : k < 24
+  cell-is : c ≡ getD (roundedFrom 0 cells) k (pos 0)
 
-module _ {cells : List ℤ} {weights : List ℕ} {i net weighted : ℕ} {c : ℤ} (t : Turn cells weights i net weighted c) where
-  bound-next : (B : ℕ) → (i + 1) * B ≡ i * B + B
-  bound-next B = omega arith
-
-  in-cells : i < length (roundedFrom 0 cells)
-  in-cells = omega (arith, whole-length 0 cells, t .class-bound, t .args .cells-long)
-
-  small : natAbs c ≤ 655360000000
-  small = rw (t .cell-is) (t .args .cells-bound i)
+module _ {cells : List ℤ} {weights : List ℕ} {k : ℕ} {c : ℤ} (x : Cell cells weights k c) where
+  in-cells : k < length (roundedFrom 0 cells)
+  in-cells = omega (arith, whole-length 0 cells, x .class-bound, x .args .cells-long)
 
   cell : Held (ofZ w64 c) c 655360000000
-  cell = held c 655360000000 small (omega arith)
+  cell = held c 655360000000 (rw (x .cell-is) (x .args .cells-bound k)) (omega arith)
 
-  -- the cell with its sign, d, goes into n
-  module _ {d : ℤ} (e : d ≡ byDirection i c) where
-    directed : Held (ofZ w64 d) d 655360000000
-    directed = held d 655360000000 (rw (e, direction-size i c) small) (omega arith)
+  -- times its weight, w, it goes into a
+  module _ {w : ℤ} (e : w ≡ pos (getD weights k 0)) where
+    abbrev times : ℕ
+    times = ofZ w64 (toZ w64 (ofZ w64 c) *ℤ toZ w64 (ofZ w64 w))
 
-    net-fits : SFits w64 (toZ w64 net +ℤ toZ w64 (ofZ w64 d))
-    net-fits = plus-fits (t .net-held) directed (omega (arith, t .class-bound))
-
-    next-net : NetHeld cells (i + 1) (ofZ w64 (toZ w64 net +ℤ toZ w64 (ofZ w64 d)))
-    next-net =
-        rw (bound-next, add-one, net-next (roundedFrom 0 cells) i in-cells, ← (t .cell-is), ← e)
-        (plus-held (t .net-held) directed (omega (arith, t .class-bound)))
-
-  -- and times its weight, w, into a
-  module _ {w : ℤ} (e : w ≡ pos (getD weights i 0)) where
     weight : Held (ofZ w64 w) w 1000
-    weight = held w 1000 (rw e (t .args .weights-bound i)) (omega arith)
+    weight = held w 1000 (rw e (x .args .weights-bound k)) (omega arith)
 
     product-fits : SFits w64 (toZ w64 (ofZ w64 c) *ℤ toZ w64 (ofZ w64 w))
     product-fits = times-fits cell weight (omega arith)
 
-    product : Held (ofZ w64 (toZ w64 (ofZ w64 c) *ℤ toZ w64 (ofZ w64 w))) (c *ℤ w) 655360000000000
+    product : Held times (c *ℤ w) 655360000000000
     product = times-held cell weight (omega arith)
 
-    weighted-fits : SFits w64 (toZ w64 weighted +ℤ toZ w64 (ofZ w64 (toZ w64 (ofZ w64 c) *ℤ toZ w64 (ofZ w64 w))))
-    weighted-fits = plus-fits (t .weighted-held) product (omega (arith, t .class-bound))
+    module _ {weighted : ℕ} (a : WeightedHeld cells weights k weighted) where
+      weighted-fits : SFits w64 (toZ w64 weighted +ℤ toZ w64 times)
+      weighted-fits = plus-fits a product (omega (arith, x .class-bound))
 
-    next-weighted : WeightedHeld cells weights (i + 1) (ofZ w64 (toZ w64 weighted +ℤ toZ w64 (ofZ w64 (toZ w64 (ofZ w64 c) *ℤ toZ w64 (ofZ w64 w)))))
-    next-weighted =
-        let in-weights : i < length weights = omega (arith, t .class-bound, t .args .weights-long) in
-        rw (bound-next, add-one, weighted-next (roundedFrom 0 cells) weights i in-cells in-weights, ← (t .cell-is), ← e)
-        (plus-held (t .weighted-held) product (omega (arith, t .class-bound)))
+      next-weighted : WeightedHeld cells weights (k + 1) (ofZ w64 (toZ w64 weighted +ℤ toZ w64 times))
+      next-weighted =
+          let in-weights : k < length weights = omega (arith, x .class-bound, x .args .weights-long) in
+          let bound : (k + 1) * 655360000000000 ≡ k * 655360000000000 + 655360000000000 = omega arith in
+          rw (bound, add-one, weighted-next (roundedFrom 0 cells) weights k in-cells in-weights, ← (x .cell-is), ← e)
+          (plus-held a product (omega (arith, x .class-bound)))
+
+-- a pair of cells, consumption and losses, goes into n
+module _ {cells : List ℤ} {weights : List ℕ} {i net : ℕ} {used lost : ℤ} (x : Cell cells weights i used) (y : Cell cells weights (i + 1) lost) (n : NetHeld cells i net)
+    (even : i % 2 ≡ 0) where
+  both-fit : SFits w64 (toZ w64 (ofZ w64 used) +ℤ toZ w64 (ofZ w64 lost))
+  both-fit = plus-fits (cell x) (cell y) (omega arith)
+
+  both : Held (ofZ w64 (toZ w64 (ofZ w64 used) +ℤ toZ w64 (ofZ w64 lost))) (used +ℤ lost) (655360000000 + 655360000000)
+  both = plus-held (cell x) (cell y) (omega arith)
+
+  -- with its sign, d
+  module _ {d : ℤ} (e : d ≡ byDirection i (used +ℤ lost)) where
+    directed : Held (ofZ w64 d) d (655360000000 + 655360000000)
+    directed = held d (655360000000 + 655360000000) (rw (e, direction-size i (used +ℤ lost)) (both .bound)) (omega arith)
+
+    net-fits : SFits w64 (toZ w64 net +ℤ toZ w64 (ofZ w64 d))
+    net-fits = plus-fits n directed (omega (arith, x .class-bound))
+
+    next-net : NetHeld cells (i + 2) (ofZ w64 (toZ w64 net +ℤ toZ w64 (ofZ w64 d)))
+    next-net =
+        let bound : (i + 2) * 655360000000 ≡ i * 655360000000 + (655360000000 + 655360000000) = omega arith in
+        let two : i + 2 ≡ suc (suc i) = omega arith in
+        let is-used = x .cell-is in
+        let is-lost = rw add-one at (y .cell-is) in
+        let inside : suc i < length (roundedFrom 0 cells) = omega (arith, in-cells y) in
+        rw (bound, two, net-next-pair (roundedFrom 0 cells) i inside even, ← is-used, ← is-lost, ← e)
+        (plus-held n directed (omega (arith, x .class-bound)))
 
 -- past the last class
 module _ (cells : List ℤ) (weights : List ℕ) (i net weighted : ℕ) (args : UnitArguments cells weights) (past : 24 ≤ i) where
@@ -95,47 +107,101 @@ module _ (cells : List ℤ) (weights : List ℕ) (i net weighted : ℕ) (args : 
 
 loop-holds : tie.Need-loop-holds Inv-loop μ-loop
 unfolding netOf weightedOf
-loop-holds c = (omega arith, (held-literal 0 (omega arith), held-literal 0 (omega arith)))
+loop-holds c = (omega arith, (omega arith, (held-literal 0 (omega arith), held-literal 0 (omega arith))))
 
-mul-whole-cell : tie.Need-mul-whole-cell Inv-loop μ-loop
-mul-whole-cell c = omega arith
+mul-used : tie.Need-mul-used Inv-loop μ-loop
+mul-used c = omega arith
 
-array-copy-out-whole-cell : tie.Need-array-copy-out-whole-cell Inv-loop μ-loop
-array-copy-out-whole-cell c = omega arith
+mul-used-2 : tie.Need-mul-used-2 Inv-loop μ-loop
+mul-used-2 c = omega arith
 
-whole-cell-requires : tie.Need-whole-cell-requires Inv-loop μ-loop
-whole-cell-requires c κs = tt
+index-1-used : tie.Need-index-1-used Inv-loop μ-loop
+index-1-used c = omega arith
 
-module _ (c : tie.After-whole-cell Inv-loop μ-loop) where
-  turn : Turn
-      (c .before .before .before .before .args .t1)
-      (c .before .before .before .before .args .weights .now)
-      (c .before .before .before .loop .class)
-      (c .before .before .before .loop .net)
-      (c .before .before .before .loop .weighted)
-      (c .whole-cell .result)
-  turn =
-      let s = c .before .before .before .before in
-      let l = c .before .before .before .loop in
+index-2-used : tie.Need-index-2-used Inv-loop μ-loop
+index-2-used c = omega arith
+
+add-nearest-wh : tie.Need-add-nearest-wh Inv-loop μ-loop
+add-nearest-wh c = omega arith
+
+mul-nearest-wh : tie.Need-mul-nearest-wh Inv-loop μ-loop
+mul-nearest-wh c = omega arith
+
+mul-nearest-wh-2 : tie.Need-mul-nearest-wh-2 Inv-loop μ-loop
+mul-nearest-wh-2 c = omega arith
+
+index-1-nearest-wh : tie.Need-index-1-nearest-wh Inv-loop μ-loop
+index-1-nearest-wh c = omega arith
+
+index-2-nearest-wh : tie.Need-index-2-nearest-wh Inv-loop μ-loop
+index-2-nearest-wh c = omega arith
+
+nearest-wh-requires : tie.Need-nearest-wh-requires Inv-loop μ-loop
+nearest-wh-requires c κs = tt
+
+-- the pair of a turn
+module _ (c : tie.After-nearest-wh Inv-loop μ-loop) where
+  abbrev start : tie.Start Inv-loop μ-loop
+  start = c .before .before .before .before .before
+
+  abbrev row : List ℤ
+  row = getD (start .args .cells .now) (start .args .unit) []
+
+  abbrev weights : List ℕ
+  weights = start .args .weights .now
+
+  abbrev class : ℕ
+  class = c .before .before .before .before .loop .class
+
+  even : class % 2 ≡ 0
+  even = c .before .before .before .before .loop .inv .1 .0
+
+  net-held : NetHeld row class (c .before .before .before .before .loop .net)
+  net-held = c .before .before .before .before .loop .inv .1 .1 .0
+
+  weighted-held : WeightedHeld row weights class (c .before .before .before .before .loop .weighted)
+  weighted-held = c .before .before .before .before .loop .inv .1 .1 .1
+
+  used-cell : Cell row weights class (getD row class (pos 0))
+  used-cell =
       record {
-        args = s .pre;
+        args = start .pre .1;
         class-bound = omega arith;
-        net-held = l .inv .1 .0;
-        weighted-held = l .inv .1 .1;
-        cell-is =
-            rw (whole-entry (s .args .t1) (l .class) (omega (arith, s .pre .cells-long)))
-            (rw (toZ-ofZ w64 _ (record { sfits = c .before .whole-cell-arg .given })) at (c .whole-cell .ensures));
+        cell-is = rw (used-entry row class even (omega (arith, start .pre .1 .cells-long)));
       }
 
-by-direction-requires : tie.Need-by-direction-requires Inv-loop μ-loop
-by-direction-requires c κs = rw (cell (turn c) .reads) (omega (arith, small (turn c)))
+  lost-cell : Cell row weights (class + 1) (c .nearest-wh .result)
+  lost-cell =
+      record {
+        args = start .pre .1;
+        class-bound = omega arith;
+        cell-is =
+            rw (lost-entry row class even (omega (arith, start .pre .1 .cells-long)))
+            (rw (toZ-ofZ w64 _ (record { sfits = c .before .nearest-wh-arg .given })) at (c .nearest-wh .ensures));
+      }
+
+  sum-held : Held (ofZ w64 (toZ w64 (ofZ w64 (getD row class (pos 0))) +ℤ toZ w64 (ofZ w64 (c .nearest-wh .result)))) (getD row class (pos 0) +ℤ c .nearest-wh .result) (655360000000 + 655360000000)
+  sum-held = both used-cell lost-cell net-held even
 
 module _ (c : tie.After-by-direction Inv-loop μ-loop) where
-  directed-is : c .by-direction .result ≡ byDirection (c .before .before .before .before .loop .class) (c .before .whole-cell .result)
-  directed-is = rw (cell (turn (c .before)) .reads) at (c .by-direction .ensures)
+  directed-is : c .by-direction .result ≡ byDirection (class (c .before)) (getD (row (c .before)) (class (c .before)) (pos 0) +ℤ c .before .nearest-wh .result)
+  directed-is = rw (sum-held (c .before) .reads) at (c .by-direction .ensures)
+
+module _ (c : tie.After-signed Inv-loop μ-loop) where
+  abbrev pair : tie.After-nearest-wh Inv-loop μ-loop
+  pair = c .before .before .before
+
+  used-weighted : WeightedHeld (row pair) (weights pair) (class pair + 1) (ofZ w64 (toZ w64 (c .before .before .before .before .before .before .before .loop .weighted) +ℤ toZ w64 (times (used-cell pair) (c .signed .ensures))))
+  used-weighted = next-weighted (used-cell pair) (c .signed .ensures) (weighted-held pair)
+
+add-by-direction : tie.Need-add-by-direction Inv-loop μ-loop
+add-by-direction c = both-fit (used-cell c) (lost-cell c) (net-held c) (even c)
+
+by-direction-requires : tie.Need-by-direction-requires Inv-loop μ-loop
+by-direction-requires c κs = rw (sum-held c .reads) (omega (arith, sum-held c .bound))
 
 add-net : tie.Need-add-net Inv-loop μ-loop
-add-net c = net-fits (turn (c .before)) (directed-is c)
+add-net c = net-fits (used-cell (c .before)) (lost-cell (c .before)) (net-held (c .before)) (even (c .before)) (directed-is c)
 
 mul-signed : tie.Need-mul-signed Inv-loop μ-loop
 mul-signed c = omega arith
@@ -147,10 +213,28 @@ signed-requires : tie.Need-signed-requires Inv-loop μ-loop
 signed-requires c κs = tt
 
 mul-weighted : tie.Need-mul-weighted Inv-loop μ-loop
-mul-weighted c = product-fits (turn (c .before .before .before)) (c .signed .ensures)
+mul-weighted c = product-fits (used-cell (pair c)) (c .signed .ensures)
 
 add-weighted : tie.Need-add-weighted Inv-loop μ-loop
-add-weighted c = weighted-fits (turn (c .before .before .before)) (c .signed .ensures)
+add-weighted c = weighted-fits (used-cell (pair c)) (c .signed .ensures) (weighted-held (pair c))
+
+add-signed : tie.Need-add-signed Inv-loop μ-loop
+add-signed c = omega arith
+
+mul-signed-2 : tie.Need-mul-signed-2 Inv-loop μ-loop
+mul-signed-2 c = omega arith
+
+element-copy-out-signed-2 : tie.Need-element-copy-out-signed-2 Inv-loop μ-loop
+element-copy-out-signed-2 c = omega arith
+
+signed-requires-2 : tie.Need-signed-requires-2 Inv-loop μ-loop
+signed-requires-2 c κs = tt
+
+mul-weighted-2 : tie.Need-mul-weighted-2 Inv-loop μ-loop
+mul-weighted-2 c = product-fits (lost-cell (pair (c .before .before))) (c .signed2 .ensures)
+
+add-weighted-2 : tie.Need-add-weighted-2 Inv-loop μ-loop
+add-weighted-2 c = weighted-fits (lost-cell (pair (c .before .before))) (c .signed2 .ensures) (used-weighted (c .before .before))
 
 add-class : tie.Need-add-class Inv-loop μ-loop
 add-class c = omega arith
@@ -160,13 +244,23 @@ loop-less c = omega arith
 
 loop-again : tie.Need-loop-again Inv-loop μ-loop
 loop-again c =
-    let t = turn (c .before .before .before) in
-    (omega arith, (next-net t (directed-is (c .before .before)), next-weighted t (c .signed .ensures)))
+    let d = c .before .before in
+    let p = pair d in
+    let two : class p + 1 + 1 ≡ class p + 2 = omega arith in (
+      omega arith,
+      (
+        omega arith,
+        (
+          next-net (used-cell p) (lost-cell p) (net-held p) (even p) (directed-is (d .before .before)),
+          rw two at (next-weighted (lost-cell p) (c .signed2 .ensures) (used-weighted d)),
+        ),
+      ),
+    )
 
 returns : tie.Need-returns Inv-loop μ-loop
 returns c =
-    let i = c .before .loop .inv .1 in
-    result _ _ (c .before .loop .class) _ _ (c .before .before .pre) (omega arith) (i .0) (i .1)
+    let i = c .before .loop .inv .1 .1 in
+    result _ _ (c .before .loop .class) _ _ (c .before .before .pre .1) (omega arith) (i .0) (i .1)
 
 pub unit-sums-spec : {M : Type 1} → statement M
 unit-sums-spec =
@@ -175,9 +269,17 @@ unit-sums-spec =
     Inv-loop
     μ-loop
     loop-holds
-    mul-whole-cell
-    array-copy-out-whole-cell
-    whole-cell-requires
+    mul-used
+    mul-used-2
+    index-1-used
+    index-2-used
+    add-nearest-wh
+    mul-nearest-wh
+    mul-nearest-wh-2
+    index-1-nearest-wh
+    index-2-nearest-wh
+    nearest-wh-requires
+    add-by-direction
     by-direction-requires
     add-net
     mul-signed
@@ -185,6 +287,12 @@ unit-sums-spec =
     signed-requires
     mul-weighted
     add-weighted
+    add-signed
+    mul-signed-2
+    element-copy-out-signed-2
+    signed-requires-2
+    mul-weighted-2
+    add-weighted-2
     add-class
     loop-less
     loop-again
