@@ -73,6 +73,15 @@ place-before (r ∷ rows) m (suc i) d l h =
     (λ b. rw (place-here r rows m (omega arith)) zero-le)
     (λ b. rw (place-here r rows m (omega arith)) zero-le)
 
+-- a row whose MPAN it is stands at the place
+pub place-same : (before : ℕ) (rows : List Row) (m i : ℕ) (d : Row) → rowsFormed before rows ≡ true → i < length rows → getD rows i d .mpan ≡ m → placeOf m rows ≡ i
+place-same before [] m i d f l h = absurd (not-suc-le-zero l)
+place-same before (r ∷ rows) m zero d f l h = place-here r rows m (omega arith)
+place-same before (r ∷ rows) m (suc i) d f l h =
+    let a = formed-first before r rows f .after in
+    let g = all-above (r .mpan) rows i d a (le-of-suc-le-suc l) in
+    place-next r rows m (omega arith) ∙ ap suc (place-same (r .mpan) rows m i d a (le-of-suc-le-suc l) h)
+
 -- no row after one above m is m's
 pub none-above : (before : ℕ) (rows : List Row) (m : ℕ) → rowsFormed before rows ≡ true → m ≤ before → isKnown m rows ≡ false
 unfolding isKnown
@@ -141,6 +150,9 @@ module _ (words : List ℕ) (n i : ℕ) (inside : i < n) where
   pub place-before-in : (m : ℕ) → m ≤ getD words (3 * i) 0 → placeOf m (rowsOf n words) ≤ i
   place-before-in m h = place-before (rowsOf n words) m i (firstRow words) row-there (rw mpan-there h)
 
+  pub place-same-in : (m : ℕ) → rowsFormed 0 (rowsOf n words) ≡ true → getD words (3 * i) 0 ≡ m → placeOf m (rowsOf n words) ≡ i
+  place-same-in m f h = place-same 0 (rowsOf n words) m i (firstRow words) f row-there (mpan-there ∙ h)
+
 module _ (words : List ℕ) (n m : ℕ) where
   pub known-none-in : n ≤ placeOf m (rowsOf n words) → isKnown m (rowsOf n words) ≡ false
   known-none-in h = known-none (rowsOf n words) m (rw length-rows h)
@@ -149,6 +161,12 @@ module _ (words : List ℕ) (n m : ℕ) where
   known-at-in f h =
       known-at 0 (rowsOf n words) m (firstRow words) f (row-there words n (placeOf m (rowsOf n words)) h)
       ∙ ap (λ (x : ℕ). eqb x m) (mpan-there words n (placeOf m (rowsOf n words)) h)
+
+  -- a row whose MPAN it is decides both
+  pub known-same-in : (i : ℕ) → rowsFormed 0 (rowsOf n words) ≡ true → i < n → getD words (3 * i) 0 ≡ m → isKnown m (rowsOf n words) ≡ true
+  known-same-in i f l h =
+      let e = place-same-in words n i l m f h in
+      known-at-in f (rw e l) ∙ rw e (eq-eqb (getD words (3 * i) 0) m h)
 
   pub known-within-in : isKnown m (rowsOf n words) ≡ true → placeOf m (rowsOf n words) < n
   known-within-in h = rw (length-rows n words) at (known-within (rowsOf n words) m h)

@@ -87,6 +87,22 @@ pub fn find(rows: &[u64], n: usize, m: u64) -> Place
     }
 }
 
+// The same, with row `near` tried before the search. Any `near` gives the same answer; where it is m's row, one comparison does.
+pub fn find_near(rows: &[u64], n: usize, m: u64, near: usize) -> Place
+    requires { ⌜ 3 * n ≤ length (now rows) ⌝ ∗ ⌜ rowsFormed 0 (rowsOf n (now rows)) ≡ true ⌝ }
+    ensures { λ r. ⌜ r ≡ placeIn m (rowsOf n (now (rows .entry))) ⌝ }
+{
+    if near < n {
+        if rows[3 * near] == m {
+            return Place {
+                index: near,
+                known: true,
+            };
+        }
+    }
+    find(rows, n, m)
+}
+
 // Moves the first `count` words up three places, the last word first, so that none is overwritten before it has moved.
 fn move_up(part: &mut [u64], count: usize)
     requires { ⌜ count + 3 ≤ length (now part) ⌝ }

@@ -1,7 +1,6 @@
 // A whole list of calls in one call. The calls stand in a slice, ten words a call: its kind, then its arguments.
 use book::Answer;
 use book::Settings;
-use book::Stored;
 use book::calls::ACCEPTED;
 use book::calls::ARGUMENT_OUT_OF_RANGE;
 use book::calls::BOOK_ILL_FORMED;
@@ -105,20 +104,33 @@ fn reading_of(call: &[u64]) -> Reading
     }
 }
 
-// Makes a register or reading call on the rows of a book that was tested before. They stand in two parts; the answer's meters
-// are those of the second part.
-fn row_call(first: usize, later: usize, rows: &mut [u64], call: &[u64]) -> Stored
+// What a register or reading call gives: the number, the meters of the second part, and the row to try first for the next reading.
+struct RowAnswer {
+    number: u64,
+    meters: usize,
+    near: usize,
+}
+
+// Makes a register or reading call on the rows of a book that was tested before. They stand in two parts. A reading tries row `near`
+// of the first before it searches; nothing is said of the row to try next, since any is right.
+fn row_call(first: usize, later: usize, near: usize, rows: &mut [u64], call: &[u64]) -> RowAnswer
     requires { ⌜ PartsReady first later (now rows) ⌝ ∗ ⌜ callWords ≤ length (now call) ⌝ ∗ ⌜ writesRows (now call) ≡ true ⌝ }
     ensures { λ r. ⌜ StoresApart (λ b. callOutcome b (callOf (now (call .entry)))) first later (now (rows .entry)) (r .number) (r .meters) (now (rows .exit)) ⌝ }
 {
     let mpan = call[1];
     if call[0] == REGISTER {
-        return register_apart(first, later, rows, mpan, registration_of(call));
+        let stored = register_apart(first, later, rows, mpan, registration_of(call));
+        return RowAnswer {
+            number: stored.number,
+            meters: stored.meters,
+            near,
+        };
     }
-    let number = reading_apart(first, later, rows, mpan, reading_of(call));
-    Stored {
-        number,
+    let recorded = reading_apart(first, later, near, rows, mpan, reading_of(call));
+    RowAnswer {
+        number: recorded.number,
         meters: later,
+        near: recorded.near,
     }
 }
 
@@ -150,7 +162,8 @@ fn setting_call(settings: Settings, call: &[u64]) -> Answer
 // Makes each call of a list in turn, on a book that was tested before: accepted calls keep it well formed, so no call tests it again.
 // A register or reading call changes no setting but the number of meters, so the settings are not copied for it. A new meter's row
 // goes among the few of the second part, which are merged into the first `first` rows when they are too many and at the end: to
-// insert each in its place among all of them would move half of them on average.
+// insert each in its place among all of them would move half of them on average. Lists are often in order of MPAN, so a reading
+// first tries the row after the one that the last reading found.
 fn make_each(settings: Settings, rows: &mut [u64], calls: &[u64], numbers: &mut [u64]) -> Answer
     requires { ⌜ wellFormed (lent settings (now rows)) ≡ true ⌝ ∗ ⌜ length (now calls) / callWords ≤ length (now numbers) ⌝ }
     ensures { λ r.
@@ -159,6 +172,7 @@ fn make_each(settings: Settings, rows: &mut [u64], calls: &[u64], numbers: &mut 
     let count = calls.len() / CALL_WORDS;
     let mut made = settings;
     let mut first = made.meters;
+    let mut near = 0;
     let mut i = 0;
     while i < count {
         let at = CALL_WORDS * i;
@@ -166,9 +180,10 @@ fn make_each(settings: Settings, rows: &mut [u64], calls: &[u64], numbers: &mut 
         if (kind == REGISTER) | (kind == READING) {
             first = with_room(rows, first, made.meters);
             let later = made.meters - first;
-            let stored = row_call(first, later, rows, &calls[at..]);
+            let stored = row_call(first, later, near, rows, &calls[at..]);
             numbers[i] = stored.number;
             made.meters = first + stored.meters;
+            near = stored.near;
         } else {
             let answer = setting_call(made, &calls[at..]);
             numbers[i] = answer.number;

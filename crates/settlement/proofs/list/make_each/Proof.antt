@@ -14,11 +14,11 @@ use Rattle.settlement.proofs.list.make_each.Statement.{statement}
 use Rattle.settlement.proofs.list.make_each.Tie as tie
 
 abbrev Inv-loop : tie.InvT-loop
-Inv-loop rows₀ calls numbers₀ count made₀ first₀ i₀ rows numbers made first i =
+Inv-loop rows₀ calls numbers₀ count made₀ first₀ near₀ i₀ rows numbers made first near i =
     (i ≤ count) × (length rows ≡ length rows₀) × (length numbers ≡ length numbers₀) × MadeApart (lent made₀ rows₀) calls numbers₀ i made first rows numbers
 
 abbrev μ-loop : tie.MeasureT-loop
-μ-loop rows₀ calls numbers₀ count made₀ first₀ i₀ rows numbers made first i = count - i
+μ-loop rows₀ calls numbers₀ count made₀ first₀ near₀ i₀ rows numbers made first near i = count - i
 
 loop-holds : tie.Need-loop-holds Inv-loop μ-loop
 loop-holds c =
@@ -115,7 +115,7 @@ loop-again c =
     ⊎-elim
     (λ w. rw (w .12, w .13, w .14, w .15) (
       omega arith,
-      w .8 .kept .1 .1 .0 ∙ w .2 .kept .0 ∙ head .inv .1,
+      w .8 .kept .1 .1 .1 .0 ∙ w .2 .kept .0 ∙ head .inv .1,
       simp length-set (head .inv .2),
       row-call-apart (head .inv .3) (omega arith) (w .2 .ensures) (w .8 .ensures),
     ))
