@@ -3,14 +3,14 @@
 use crate::measure::Measured;
 use crate::report::{grouped, seconds, SIZES};
 
-const PANEL_WIDTH: f64 = 250.0;
-const PANEL_HEIGHT: f64 = 190.0;
+const PANEL_WIDTH: f64 = 270.0;
+const PANEL_HEIGHT: f64 = 196.0;
 const COLUMNS: usize = 4;
 /// Within a panel: room for the title above, the times at the left and the numbers of meters below.
 const LEFT: f64 = 52.0;
 const TOP: f64 = 30.0;
-const RIGHT: f64 = 14.0;
-const BOTTOM: f64 = 26.0;
+const RIGHT: f64 = 28.0;
+const BOTTOM: f64 = 32.0;
 
 const LIBRARY_COLOUR: &str = "#1f5fa8";
 const RUST_COLOUR: &str = "#c2571a";
@@ -79,7 +79,7 @@ fn curve(panel: &[Measured], scale: &Scale, colour: &str, time: fn(&Measured) ->
 fn panel(panel: &[Measured], place: usize) -> String {
     let scale = Scale::of(panel);
     format!(
-        "<g transform='translate({},{})'>\n<text x='{LEFT}' y='18' font-weight='bold'>{}</text>\n{}{}{}</g>\n",
+        "<g transform='translate({},{})'>\n<text x='10' y='18' font-weight='bold'>{}</text>\n{}{}{}</g>\n",
         (place % COLUMNS) as f64 * PANEL_WIDTH,
         (place / COLUMNS) as f64 * PANEL_HEIGHT,
         panel[0].name,
