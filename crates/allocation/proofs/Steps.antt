@@ -27,7 +27,7 @@ use Rattle.allocation.specs.Cells.{isLossClass, cell, countFrom, cellsOf
 use Rattle.allocation.specs.declared.UnitSums.{UnitSums}
 use Rattle.allocation.specs.Correction.{units, netOf, weightedOf, netIn, weightedIn, unitSums, allUnitSums, unallocatedOf, weightedTotal}
 use Rattle.allocation.specs.Allocate.{exceedsTolerance}
-use Rattle.allocation.specs.Contracts.{rawCell, tableOf, emptyCell, wholeCell, roundedFrom, sumsOf, GatherArguments, UnitArguments, AllUnitsArguments, AllUnits, TotalArguments, ToleranceArguments, ApportionArguments}
+use Rattle.allocation.specs.Contracts.{rawCell, tableOf, emptyCell, wholeCell, roundedFrom, sumsOf, GatherArguments, UnitArguments, AllUnitsArguments, AllUnits, TotalArguments, ToleranceArguments, ApportionArguments, CorrectionOf}
 use Rattle.allocation.proofs.Entries.{entry-map, by-place}
 use Rattle.allocation.proofs.Counting.{counted-length, cells-length, cells-at, sums-length, sums-at}
 use Rattle.allocation.proofs.Tables.{table-row, table-sized}
@@ -138,6 +138,10 @@ units-worked s words wf t given =
       weighted-are = given .weighted-are ∙ ap (map (λ cells. weightedIn (sumsOf cells (s .weights)))) t ∙ units-from-table s words wf weightedIn;
     }
 
+pub figures-worked : {s : Settings} {words : List ℕ} {takeWh : ℤ} {tolerance : ℕ} {nets weighted : List ℤ} {counts : List ℕ} {volumes : List ℤ}
+    → CorrectionOf s words takeWh tolerance nets weighted counts volumes → Worked s words nets weighted
+figures-worked k = record { formed = k .formed; nets-are = k .nets-are; weighted-are = k .weighted-are }
+
 module _ {s : Settings} {words : List ℕ} {nets weighted : List ℤ} (k : Worked s words nets weighted) where
   -- n, or a, of each unit: as many as there are units, and bounded as each is
   long : (read : UnitSums → ℤ) {xs : List ℤ} → xs ≡ map read (sumsIn s words) → length xs ≡ units
@@ -151,10 +155,10 @@ module _ {s : Settings} {words : List ℕ} {nets weighted : List ℤ} (k : Worke
       let there : i < length (sumsIn s words) = omega (arith, sums-length s (metersIn s words)) in
       rw (e, entry-map read (sumsIn s words) i noSums (pos 0) there, sums-at s (metersIn s words) i noSums h) (each i))
 
-  pub nets-long : length nets ≡ units
+  nets-long : length nets ≡ units
   nets-long = long netIn (k .nets-are)
 
-  pub weighted-long : length weighted ≡ units
+  weighted-long : length weighted ≡ units
   weighted-long = long weightedIn (k .weighted-are)
 
   nets-bound : (i : ℕ) → natAbs (getD nets i (pos 0)) ≤ 1400000000000

@@ -1,24 +1,27 @@
 -- How the contracts of the functions speak: tables of cells, numbers for where a meter's energy comes from, and what each function is held to.
 use Prim.Native.Nat.{ℕ, suc, _+_, _*_, _-_, _≤_, _<_}
 use mathlib.Core.Path.{_≡_}
-use mathlib.Core.Bool.{Bool, true, cond}
+use mathlib.Core.Bool.{Bool, true, false, cond}
 use mathlib.Core.List.{List, [], _∷_, map}
 use lib.IntN.{ℤ, pos, natAbs, _+ℤ_}
 use lib.ListN.{length, getD, set}
 use lib.Signed.{_<ℤ_}
 use Rattle.integers.specs.Rounding.{nearestWh}
+use Rattle.book.specs.declared.Settings.{Settings}
 use Rattle.book.specs.Limits.{metersMost, classes, categories}
 use Rattle.book.specs.Settings.{isShape, allOf}
 use Rattle.book.specs.Rows.{Row, rowsOf, rowsFormed}
+use Rattle.book.specs.Book.{wellFormed}
+use Rattle.book.specs.Contracts.{lent}
 use Rattle.allocation.specs.declared.Use.{Use}
 use Rattle.allocation.specs.Energy.{Source, actualReading, estimatedReading, shapeDefault, noEnergy, sourceOf, energyWh, lacksShapeFrom, anyLacksShape, Counts, countsOf}
 use Rattle.allocation.specs.Cells.{isLossClass, consumptionCell, lossCell, countFrom}
 use Rattle.allocation.specs.declared.UnitSums.{UnitSums}
-use Rattle.allocation.specs.Correction.{units, netOf, weightedOf, netIn, weightedIn, unallocatedOf, weightedTotal, shareFloor, shareFraction}
+use Rattle.allocation.specs.Correction.{units, netOf, weightedOf, netIn, weightedIn, allUnitSums, unallocatedOf, weightedTotal, shareFloor, shareFraction}
 use Rattle.allocation.specs.declared.Allocated.{Allocated}
 use Rattle.allocation.specs.declared.AllocationAnswer.{AllocationAnswer}
 use Rattle.allocation.specs.Volumes.{volumesFrom}
-use Rattle.allocation.specs.Allocate.{Allocation}
+use Rattle.allocation.specs.Allocate.{Allocation, allocateCall}
 
 -- the number of a source, in the order of the four counts
 abbrev pub sourceNumber : Source → ℕ
@@ -189,6 +192,28 @@ pub record Apportioned (takeWh u w : ℤ) (nets weighted after : List ℤ) : Typ
 pub record AllocatedAs (o : Allocation) (answer : Allocated) (volumesAfter : List ℤ) : Type 0 where
   pub answer-is : answer ≡ o .answer
   pub volumes-are : volumesAfter ≡ o .volumes
+
+-- the figures of a book that causes 1 and 7 to 9 do not refuse: its Take and tolerance, n and a of its units, and its four counts
+pub record CorrectionOf (s : Settings) (words : List ℕ) (takeWh : ℤ) (tolerance : ℕ) (nets weighted : List ℤ) (counts : List ℕ) (volumes : List ℤ) : Type 0 where
+  pub formed : wellFormed (lent s words) ≡ true
+  pub volumes-long : units ≤ length volumes
+  pub take-set : s .«take_set» ≡ true
+  pub shaped : anyLacksShape (s .shapes) (rowsOf (s .meters) words) ≡ false
+  pub take-is : takeWh ≡ s .«take_wh»
+  pub tolerance-is : tolerance ≡ s .tolerance
+  pub nets-are : nets ≡ map netIn (allUnitSums s (rowsOf (s .meters) words))
+  pub weighted-are : weighted ≡ map weightedIn (allUnitSums s (rowsOf (s .meters) words))
+  pub counts-are : counts ≡ countList (countsOf (rowsOf (s .meters) words))
+
+-- what `correct_units` is held to: figures that are those of some book
+pub record CorrectArguments (takeWh : ℤ) (tolerance : ℕ) (nets weighted : List ℤ) (counts : List ℕ) (volumes : List ℤ) : Type 0 where
+  pub settings : Settings
+  pub words : List ℕ
+  pub figures : CorrectionOf settings words takeWh tolerance nets weighted counts volumes
+
+-- what `correct_units` gives: for each book whose figures these are, the answer and the volume slice of its allocation
+pub record Corrected (takeWh : ℤ) (tolerance : ℕ) (nets weighted : List ℤ) (counts : List ℕ) (before : List ℤ) (answer : Allocated) (after : List ℤ) : Type 0 where
+  pub allocated : (s : Settings) (words : List ℕ) → CorrectionOf s words takeWh tolerance nets weighted counts before → AllocatedAs (allocateCall (lent s words) before) answer after
 
 -- the answer, the rows and the volume slice afterwards are those of an allocation
 pub record AllocationGives (o : Allocation) (r : AllocationAnswer) (rowsAfter : List ℕ) (volumesAfter : List ℤ) : Type 0 where

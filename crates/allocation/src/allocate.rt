@@ -16,7 +16,7 @@ ghost use mathlib.Core.Bool.{true};
 ghost use Rattle.book.specs.Book.{wellFormed};
 ghost use Rattle.book.specs.Contracts.{lent};
 ghost use Rattle.allocation.specs.Allocate.{exceedsTolerance, refusedWith, allocateCall};
-ghost use Rattle.allocation.specs.Contracts.{ToleranceArguments, ApportionArguments, Apportioned, AllocatedAs, AllocationGives};
+ghost use Rattle.allocation.specs.Contracts.{ToleranceArguments, ApportionArguments, Apportioned, CorrectArguments, Corrected, AllocatedAs, AllocationGives};
 
 pub const VOLUMES_SHORT: u64 = 7;
 
@@ -70,6 +70,38 @@ fn apportion(
     hand_out(volumes, &fractions, lack as u64);
 }
 
+// The correction of the units' sums, and the last watt-hours: U and W, the causes that rest on them, and the volumes.
+fn correct_units(
+    take_wh: i64,
+    tolerance: u32,
+    nets: &[i64; 32],
+    weighted: &[i64; 32],
+    counts: &[u64; 4],
+    volumes: &mut [i64],
+) -> Allocated
+    requires { ⌜ CorrectArguments «take_wh» tolerance (now nets) (now weighted) (now counts) (now volumes) ⌝ }
+    ensures { λ r. ⌜ Corrected «take_wh» tolerance (now (nets .entry)) (now (weighted .entry)) (now (counts .entry)) (now (volumes .entry)) r (now (volumes .exit)) ⌝ }
+{
+    let u = take_wh - total(nets);
+    let w = total(weighted);
+    if w < 1 {
+        return refused(WEIGHTED_BELOW_ONE);
+    }
+    if exceeds_tolerance(tolerance, u, w) {
+        return refused(TOLERANCE_EXCEEDED);
+    }
+    apportion(take_wh, u, w, nets, weighted, &mut volumes[0..32]);
+    Allocated {
+        number: ACCEPTED,
+        unallocated: u,
+        weighted: w,
+        actual: counts[0],
+        estimated: counts[1],
+        defaulted: counts[2],
+        idle: counts[3],
+    }
+}
+
 // The allocation of a book that was tested before.
 pub fn allocate_formed(settings: Settings, rows: &[u64], volumes: &mut [i64]) -> Allocated
     requires { ⌜ wellFormed (lent settings (now rows)) ≡ true ⌝ }
@@ -91,31 +123,14 @@ pub fn allocate_formed(settings: Settings, rows: &[u64], volumes: &mut [i64]) ->
     let mut nets = [0i64; 32];
     let mut weighted = [0i64; 32];
     all_units(&cells, &weights, &mut nets, &mut weighted);
-    let u = settings.take_wh - total(&nets);
-    let w = total(&weighted);
-    if w < 1 {
-        return refused(WEIGHTED_BELOW_ONE);
-    }
-    if exceeds_tolerance(settings.tolerance, u, w) {
-        return refused(TOLERANCE_EXCEEDED);
-    }
-    apportion(
+    correct_units(
         settings.take_wh,
-        u,
-        w,
+        settings.tolerance,
         &nets,
         &weighted,
-        &mut volumes[0..32],
-    );
-    Allocated {
-        number: ACCEPTED,
-        unallocated: u,
-        weighted: w,
-        actual: counts[0],
-        estimated: counts[1],
-        defaulted: counts[2],
-        idle: counts[3],
-    }
+        &counts,
+        volumes,
+    )
 }
 
 // Allocates the Take to the 32 units: writes the first 32 words of the volume slice, and changes nothing in the book.
