@@ -1,6 +1,5 @@
 //! The table, as it is printed and as it stands in docs/BENCHMARKS.md.
 
-use std::fs;
 use std::process::Command;
 
 use crate::measure::Measured;
@@ -54,9 +53,10 @@ fn first_line(program: &str, argument: &str) -> String {
 }
 
 fn processor() -> String {
-    let text = fs::read_to_string("/proc/cpuinfo").unwrap_or_default();
-    let name = text.lines().find_map(|line| line.strip_prefix("model name")).unwrap_or(": unknown");
-    name.trim_start_matches([' ', '\t', ':']).to_string()
+    let described = Command::new("lscpu").output().map(|output| output.stdout).unwrap_or_default();
+    let text = String::from_utf8_lossy(&described);
+    let name = text.lines().find_map(|line| line.strip_prefix("Model name:"));
+    name.map_or_else(|| "unknown".to_string(), |name| name.trim().to_string())
 }
 
 fn machine() -> String {
