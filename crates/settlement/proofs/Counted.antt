@@ -3,13 +3,15 @@ use Prim.Native.Nat.{ℕ}
 use mathlib.Core.Path.{_≡_, refl, sym, _∙_, ap}
 use mathlib.Core.Bool.{Bool, true, false, _&&_, _||_, and-true, and-false, or-false, and-eq-true-iff, true≢false}
 use mathlib.Core.List.{List, [], _∷_, _++_, append-nil}
+use borrow.Author.Tests.{eqb-true}
 use lib.Dec.{eqb}
+use Rattle.words.specs.declared.Reading.{Reading}
 use Rattle.words.specs.Reading.{qualityAllowed}
 use Rattle.words.proofs.Tests.{by-test}
 use Rattle.book.specs.Calls.{Call, register, reading, setting, registerInRange, readingCallInRange}
 use Rattle.allocation.proofs.Each.{Each, no-entry, entry}
 use Rattle.settlement.specs.Meaning.{only, gather, isAny, mpanRegistered, registrationSet, sinceRegistered, readingFree, countedReadings}
-use Rattle.settlement.specs.Demand.{isIn}
+use Rattle.settlement.specs.Moves.{isIn}
 use Rattle.settlement.proofs.Lists.{eqb-either-way, gather-end, any-append, in-append, each-gathered}
 use Rattle.settlement.proofs.Newest.{InRange}
 
@@ -123,3 +125,32 @@ free-in-range m (setting x) = no-entry
 pub counted-in-range : (calls : List Call) (m : ℕ) → Each InRange (countedReadings calls m)
 unfolding countedReadings
 counted-in-range calls m = each-gathered (readingFree m) (free-in-range m) (sinceRegistered m calls)
+
+-- where each reading of a meter stands after its first registration, each that is free of causes 2 and 3 counts
+module _ (m : ℕ) where
+  register-no-reading : (c : Call) → isAny (registrationSet m c) ≡ true → readingFree m c ≡ []
+  unfolding registrationSet readingFree isAny
+  register-no-reading (register k r) h = refl
+  register-no-reading (reading k r) h = absurd (true≢false (sym h))
+  register-no-reading (setting x) h = absurd (true≢false (sym h))
+
+  not-of-meter : (c : Call) → ((r : Reading) → c ≡ reading m r → ⊥) → readingFree m c ≡ []
+  unfolding readingFree only
+  not-of-meter (register k r) h = refl
+  not-of-meter (reading k r) h =
+      by-test (eqb k m)
+      (λ e. absurd (h r (ap (λ (j : ℕ). reading j r) (eqb-true k m e))))
+      (λ e. rw e)
+  not-of-meter (setting x) h = refl
+
+  pub counted-all : (calls : List Call) → ((before later : List Call) (r : Reading) → calls ≡ before ++ reading m r ∷ later → isRegistered m before ≡ true)
+      → countedReadings calls m ≡ gather (readingFree m) calls
+  unfolding countedReadings sinceRegistered gather isAny
+  counted-all [] after = refl
+  counted-all (c ∷ calls) after =
+      by-test (isAny (registrationSet m c))
+      (λ here. rw (here, register-no-reading c here))
+      (λ elsewhere.
+      let free = not-of-meter c (λ r e. true≢false (sym (after [] calls r (ap (λ (d : Call). d ∷ calls) e)))) in
+      let later = counted-all calls (λ before rest r e. sym (registered-next m c before elsewhere) ∙ after (c ∷ before) rest r (ap (λ (l : List Call). c ∷ l) e)) in
+      rw (elsewhere, free) later)

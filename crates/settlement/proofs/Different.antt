@@ -10,7 +10,7 @@ use lib.ListN.{length, take, length-take, length-append}
 use lib.Seq.{take-all, take-append-le}
 use Rattle.words.proofs.Tests.{by-test, neither}
 use Rattle.settlement.specs.Meaning.{without, different}
-use Rattle.settlement.specs.Demand.{isIn}
+use Rattle.settlement.specs.Moves.{isIn}
 use Rattle.settlement.proofs.Lists.{eqb-either-way}
 
 module _ (x y : ℕ) (ys : List ℕ) where

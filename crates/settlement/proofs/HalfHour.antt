@@ -1,44 +1,28 @@
 -- A fresh book, a list and the allocation after it, from what the two calls give.
-use Prim.Native.Nat.{ℕ, zero, suc, _<_}
-use mathlib.Core.Path.{_≡_, refl, sym, _∙_, ap, ap₂, subst}
+use Prim.Native.Nat.{ℕ, zero, suc}
+use mathlib.Core.Path.{_≡_, refl, sym, _∙_, ap, ap₂}
 use mathlib.Core.Bool.{true}
 use mathlib.Core.List.{List}
-use lib.IntN.{ℤ, pos, natAbs, _-ℤ_, _*ℤ_}
-use lib.ListN.{getD, take}
-use Rattle.integers.specs.Sum.{sum}
+use lib.IntN.{ℤ}
 use Rattle.book.specs.declared.Answer.{Answer}
 use Rattle.book.specs.declared.Settings.{Settings}
-use Rattle.book.specs.Rows.{capacity}
 use Rattle.book.specs.Book.{Book, freshBook, wellFormed}
 use Rattle.book.specs.Causes.{accepted}
 use Rattle.book.specs.Calls.{Call, bookAfter}
 use Rattle.book.specs.Contracts.{lent}
 use Rattle.allocation.specs.declared.Allocated.{Allocated}
-use Rattle.allocation.specs.Correction.{units, weightedTotal}
 use Rattle.allocation.specs.Allocate.{Allocation, refusedWith, allocateCall}
 use Rattle.allocation.specs.Contracts.{AllocatedAs}
-use Rattle.settlement.specs.Demand.{allocationAfter, meantSums, meantNumerators, countsAnswered, Settled, Demand3}
+use Rattle.settlement.specs.Demand.{allocationAfter, ListSettled, Settled, Demand3}
 use Rattle.settlement.specs.Listed.{callsIn, listCause, ListOutcome, listOutcome, listCall, ListGives}
-use Rattle.settlement.specs.Settle.{SettleOutcome, settleOutcome, settleCall, ListSettled, SettleGives}
+use Rattle.settlement.specs.Settle.{SettleOutcome, settleOutcome, settleCall, SettleGives}
 use Rattle.settlement.proofs.Meant.{list-meant}
 use Rattle.settlement.proofs.Settles.{demand-3}
 
 -- demand 3 of an answer and of volumes that are those of the allocation
 settled-as : (words : List ℕ) (calls : List Call) (slice : List ℤ) (answer : Allocated) (after : List ℤ)
     → answer ≡ allocationAfter words calls slice .answer → after ≡ allocationAfter words calls slice .volumes → Settled words calls slice → ListSettled words calls answer after
-settled-as words calls slice answer after a v s =
-    record {
-      total = ap (λ (x : List ℤ). sum (take units x)) v ∙ s .total;
-      volumes = ap (take units) v ∙ s .volumes;
-      figures = a ∙ s .figures;
-      distance = λ unit h.
-          subst
-          (λ (x : List ℤ).
-          natAbs (getD x unit (pos 0) *ℤ weightedTotal (meantSums (capacity words) calls) -ℤ getD (meantNumerators (capacity words) calls) unit (pos 0))
-          < natAbs (weightedTotal (meantSums (capacity words) calls)))
-          (sym v) (s .distance unit h);
-      meters = ap countsAnswered a ∙ s .meters;
-    }
+settled-as words calls slice answer after a v s = rw (a, v) (s .settled)
 
 -- the number of a list is its cause
 list-number : (b : Book) (ws numbers : List ℕ) → listCall b ws numbers .number ≡ listCause ws numbers

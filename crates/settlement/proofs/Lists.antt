@@ -9,7 +9,7 @@ use Rattle.words.proofs.Tests.{same-test}
 use Rattle.allocation.proofs.Each.{Each, no-entry, each-append}
 use Rattle.allocation.proofs.Permuted.{Permuted, none, keep, exchange, chain}
 use Rattle.settlement.specs.Meaning.{gather, lastOr, isAny}
-use Rattle.settlement.specs.Demand.{isIn}
+use Rattle.settlement.specs.Moves.{isIn}
 
 module _ {A B : Type 0} (f : B → List A) where
   pub gather-append : (xs ys : List B) → gather f (xs ++ ys) ≡ gather f xs ++ gather f ys
@@ -24,6 +24,12 @@ module _ {A B : Type 0} (f : B → List A) where
   -- an entry from which nothing is taken
   pub gather-nothing : (xs : List B) (x : B) → f x ≡ [] → gather f (xs ++ x ∷ []) ≡ gather f xs
   gather-nothing xs x h = gather-end xs x ∙ rw h (append-nil (gather f xs))
+
+  -- what is gathered from what was gathered
+  pub gather-gathered : {C : Type 0} (g : C → List B) (h : C → List A) → ((x : C) → gather f (g x) ≡ h x) → (xs : List C) → gather f (gather g xs) ≡ gather h xs
+  unfolding gather
+  gather-gathered g h e [] = refl
+  gather-gathered g h e (x ∷ xs) = gather-append (g x) (gather g xs) ∙ rw (e x, gather-gathered g h e xs)
 
   -- a property of each entry
   pub each-gathered : {P : A → Type 0} → ((x : B) → Each P (f x)) → (xs : List B) → Each P (gather f xs)

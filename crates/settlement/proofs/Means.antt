@@ -14,7 +14,7 @@ use Rattle.book.proofs.Written.{length-written, rows-of-written}
 use Rattle.allocation.proofs.Each.{each-mapped}
 use Rattle.allocation.proofs.Permuted.{Permuted, back, mapped, each-permuted, length-permuted}
 use Rattle.settlement.specs.Meaning.{settingSet, meantMpans, countedReadings, newestReading, meantMeter, meantMeters, meantSettings}
-use Rattle.settlement.specs.Demand.{isIn}
+use Rattle.settlement.specs.Moves.{isIn}
 use Rattle.settlement.proofs.Lists.{in-permuted}
 use Rattle.settlement.proofs.MeantSettings.{settings-kept}
 use Rattle.settlement.proofs.Stored.{mpanOf, known-in, GivenBy, issue-given}

@@ -15,7 +15,7 @@ use Rattle.book.specs.Rows.{Row}
 use Rattle.book.specs.Contracts.{row}
 use Rattle.book.specs.Calls.{Setting, Call, register, reading, setting, registerInRange, readingCallInRange}
 use Rattle.settlement.specs.Meaning.{only, gather, registrationSet, meantRegistration, readingFree, countedReadings, higherIssue, newestReading, mpanRegistered, meantMpans, meantMeter, meantMeters}
-use Rattle.settlement.specs.Demand.{isIn}
+use Rattle.settlement.specs.Moves.{isIn}
 use Rattle.settlement.proofs.Lists.{gather-end, gather-nothing, last-end, map-same}
 use Rattle.settlement.proofs.Counted.{isRegistered, counted-end, counted-kept}
 use Rattle.settlement.proofs.Newest.{newest-end}

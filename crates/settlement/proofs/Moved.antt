@@ -1,4 +1,4 @@
--- Lists that differ only in where their reading calls stand mean the same settings and the same meters, under the two provisos of `MovedReadings`. The calls other than readings give the settings, the MPANs and the registrations; the earliest reading of each issue gives the newest reading.
+-- Lists that differ only in where their reading calls stand, and keep the earliest reading of each issue, mean the same settings and the same meters. The calls other than readings give the settings, the MPANs and the registrations; the earliest reading of each issue gives the newest reading.
 use Prim.Native.Nat.{ℕ}
 use mathlib.Core.Path.{_≡_, refl, sym, _∙_, ap}
 use mathlib.Core.Bool.{true}
@@ -6,8 +6,8 @@ use mathlib.Core.List.{List, [], _∷_, map, append-nil}
 use Rattle.words.specs.declared.Reading.{Reading}
 use Rattle.book.specs.Calls.{Call, register, reading, setting}
 use Rattle.settlement.specs.Meaning.{gather, settingSet, mpanRegistered, meantMpans, registrationSet, meantRegistration, countedReadings, meantMeter, meantMeters, meantSettings}
-use Rattle.settlement.specs.Demand.{otherCall, isIn, MovedReadings}
-use Rattle.settlement.proofs.Lists.{gather-append, map-same}
+use Rattle.settlement.specs.Moves.{otherCall, isAccepted, OnlyReadingsMoved, EarliestKept}
+use Rattle.settlement.proofs.Lists.{gather-gathered, map-same}
 use Rattle.settlement.proofs.Newest.{same-newest}
 use Rattle.settlement.proofs.Counted.{counted-in-range}
 use Rattle.settlement.proofs.MeantSettings.{settings-same}
@@ -21,15 +21,13 @@ module _ {A : Type 0} (f : Call → List A) (none : (m : ℕ) (r : Reading) → 
   other-call (setting x) = append-nil (f (setting x))
 
   gather-others : (calls : List Call) → gather f (gather otherCall calls) ≡ gather f calls
-  unfolding gather
-  gather-others [] = refl
-  gather-others (c ∷ calls) = gather-append f (otherCall c) (gather otherCall calls) ∙ rw (other-call c, gather-others calls)
+  gather-others calls = gather-gathered f otherCall f other-call calls
 
   gather-moved : (calls moved : List Call) → gather otherCall calls ≡ gather otherCall moved → gather f calls ≡ gather f moved
   gather-moved calls moved h = sym (gather-others calls) ∙ ap (gather f) h ∙ gather-others moved
 
-module _ {capacity : ℕ} {calls moved : List Call} (same : MovedReadings capacity calls moved) where
-  moved-mpans : meantMpans capacity calls ≡ meantMpans capacity moved
+module _ (capacity : ℕ) {calls moved : List Call} (same : OnlyReadingsMoved calls moved) where
+  pub moved-mpans : meantMpans capacity calls ≡ meantMpans capacity moved
   unfolding meantMpans mpanRegistered
   moved-mpans = rw (gather-moved mpanRegistered (λ m r. refl) calls moved (same .others))
 
@@ -37,12 +35,13 @@ module _ {capacity : ℕ} {calls moved : List Call} (same : MovedReadings capaci
   unfolding settingSet
   moved-settings = settings-same capacity calls moved (gather-moved settingSet (λ m r. refl) calls moved (same .others)) moved-mpans
 
-  moved-meter : (m : ℕ) → isIn m (meantMpans capacity calls) ≡ true → meantMeter calls m ≡ meantMeter moved m
+module _ {capacity : ℕ} {calls moved : List Call} (same : EarliestKept capacity calls moved) where
+  moved-meter : (m : ℕ) → isAccepted capacity calls m ≡ true → meantMeter calls m ≡ meantMeter moved m
   unfolding meantMeter meantRegistration registrationSet
   moved-meter m accepted =
       let newest = same-newest (countedReadings calls m) (countedReadings moved m) (counted-in-range calls m) (counted-in-range moved m) (same .earliest m accepted) in
-      rw (gather-moved (registrationSet m) (λ k r. refl) calls moved (same .others), newest)
+      rw (gather-moved (registrationSet m) (λ k r. refl) calls moved (same .only-readings .others), newest)
 
   pub moved-meters : meantMeters capacity calls ≡ meantMeters capacity moved
   unfolding meantMeters
-  moved-meters = map-same (meantMeter calls) (meantMeter moved) (meantMpans capacity calls) moved-meter ∙ ap (map (meantMeter moved)) moved-mpans
+  moved-meters = map-same (meantMeter calls) (meantMeter moved) (meantMpans capacity calls) moved-meter ∙ ap (map (meantMeter moved)) (moved-mpans capacity (same .only-readings))

@@ -1,31 +1,30 @@
--- Reading calls moved in an everyday way are moved within the provisos of demand 3: where readings of one issue keep their order, and where no meter has two readings of one issue.
+-- Reading calls that are moved within the provisos keep the earliest reading of each issue that counts: each reading of an accepted meter counts that is free of causes 2 and 3, in both lists, and there is one of each issue at most.
 use Prim.Native.Nat.{ℕ, suc, _+_, _≤_}
 use mathlib.Core.Path.{_≡_, refl, sym, _∙_, ap}
-use mathlib.Core.Bool.{true, false, and-eq-true-iff}
-use mathlib.Core.List.{List, [], _∷_, _++_}
+use mathlib.Core.Bool.{Bool, true, false, _&&_, cond, and-eq-true-iff}
+use mathlib.Core.List.{List, [], _∷_, _++_, append-nil}
 use native.Mathlib.Omega.{arith}
 use borrow.Author.Tests.{eqb-true, eqb-false, eq-eqb, ne-eqb}
 use lib.Dec.{eqb}
-use lib.ListN.{length}
+use lib.ListN.{length, length-append}
 use Rattle.words.specs.declared.Reading.{Reading}
-use Rattle.words.specs.Reading.{noReading, readingWord}
+use Rattle.words.specs.Reading.{readingWord, qualityAllowed}
 use Rattle.words.proofs.Tests.{by-test}
-use Rattle.book.specs.Calls.{Call}
-use Rattle.settlement.specs.Meaning.{only, gather, meantMpans, countedReadings}
-use Rattle.settlement.specs.Demand.{sameReading, timesIn, ofIssue, firstOr, earliestOf, isIn, MovedReadings}
-use Rattle.settlement.specs.Moves.{OnlyReadingsMoved, OrderKept, OncePerIssue}
+use Rattle.book.specs.Calls.{Call, register, reading, setting, readingCallInRange}
+use Rattle.settlement.specs.Meaning.{only, gather, readingFree, countedReadings}
+use Rattle.settlement.specs.Moves.{readingCalled, readingsCalled, sameReading, timesIn, ofIssue, isAccepted, AfterRegistration, ReadingsMoved, firstOr, earliestOf, EarliestKept}
+use Rattle.settlement.proofs.Lists.{gather-gathered}
+use Rattle.settlement.proofs.Counted.{counted-all}
+use Rattle.settlement.proofs.Moved.{moved-mpans}
 
--- a reading that is the same has the same issue and the same word
-module _ (x y : Reading) (same : sameReading x y ≡ true) where
-  same-issue : x .issue ≡ y .issue
-  unfolding sameReading
-  same-issue = let k = simp and-eq-true-iff at same in eqb-true (x .issue) (y .issue) (k .0 .0)
-
-  same-word : readingWord x ≡ readingWord y
-  unfolding sameReading readingWord
-  same-word =
-      let k = simp and-eq-true-iff at same in
-      rw (eqb-true (x .issue) (y .issue) (k .0 .0), eqb-true (x .quality) (y .quality) (k .0 .1), eqb-true (x .consumption) (y .consumption) (k .1))
+same-is : (x y : Reading) → sameReading x y ≡ true → x ≡ y
+unfolding sameReading
+same-is x y same =
+    let k = simp and-eq-true-iff at same in
+    let issues = eqb-true (x .issue) (y .issue) (k .0 .0) in
+    let qualities = eqb-true (x .quality) (y .quality) (k .0 .1) in
+    let consumptions = eqb-true (x .consumption) (y .consumption) (k .1) in
+    λ i. record { issue = issues i; quality = qualities i; consumption = consumptions i }
 
 itself : (x : Reading) → sameReading x x ≡ true
 unfolding sameReading
@@ -61,7 +60,7 @@ some-of-issue x issue (y ∷ rest) e h =
     let other = eqb-false (y .issue) issue elsewhere in
     rw (of-another issue y rest other)
     (by-test (sameReading x y)
-    (λ same. absurd (other (sym (same-issue x y same) ∙ e)))
+    (λ same. absurd (other (sym (ap (λ (r : Reading). r .issue) (same-is x y same)) ∙ e)))
     (λ differs. some-of-issue x issue rest e (rw (times-elsewhere x y rest differs) at h))))
 
 none : {A : Type 0} (xs : List A) → length xs ≤ 0 → xs ≡ []
@@ -75,9 +74,10 @@ only-of-issue x issue [] e h one = absurd (omega arith)
 only-of-issue x issue (y ∷ rest) e h one =
     by-test (sameReading x y)
     (λ same.
-    let split = of-issue issue y rest (sym (same-issue x y same) ∙ e) in
+    let is = same-is x y same in
+    let split = of-issue issue y rest (sym (ap (λ (r : Reading). r .issue) is) ∙ e) in
     let few : length (gather (ofIssue issue) rest) ≤ 0 = omega (arith, rw split at one) in
-    split ∙ rw (none (gather (ofIssue issue) rest) few, same-word x y same))
+    split ∙ rw (none (gather (ofIssue issue) rest) few, is))
     (λ differs.
     let later : 1 ≤ timesIn x rest = rw (times-elsewhere x y rest differs) at h in
     by-test (eqb (y .issue) issue)
@@ -125,38 +125,86 @@ behind-first issue word words (y ∷ rest) e =
           (λ differs. rw (times-elsewhere (behind .it) y rest differs) (behind .stands));
     })
 
--- two lists of readings with the same readings, one of each issue at most: the earliest of an issue is the same
-module _ (issue : ℕ) (here there : List Reading) (same : (r : Reading) → timesIn r here ≡ timesIn r there) (once : length (gather (ofIssue issue) here) ≤ 1) (once-there : length (gather (ofIssue issue) there) ≤ 1) where
+-- two lists of the same readings, in the first of which there is one of an issue at most: the earliest of the issue is the same
+module _ (issue : ℕ) (here there : List Reading) (same : (r : Reading) → timesIn r here ≡ timesIn r there) (once : length (gather (ofIssue issue) here) ≤ 1) where
   same-first : (words words-there : List ℕ) → gather (ofIssue issue) here ≡ words → gather (ofIssue issue) there ≡ words-there → earliestOf issue here ≡ earliestOf issue there
   unfolding firstOr
   same-first [] [] e f = rw (e, f)
-  same-first [] (word ∷ words) e f =
-      let behind = behind-first issue word words there f in
-      let some = some-of-issue (behind .it) issue here (behind .issue-is) (rw (same (behind .it)) (behind .stands)) in
-      let nothing : length (gather (ofIssue issue) here) ≡ 0 = ap length e in
-      absurd (omega arith)
-  same-first (word ∷ words) words-there e f =
+  same-first (word ∷ words) [] e f =
       let behind = behind-first issue word words here e in
-      let only-there = only-of-issue (behind .it) issue there (behind .issue-is) (rw (sym (same (behind .it))) (behind .stands)) once-there in
-      rw (e, only-there) (sym (behind .word-is))
+      let some = some-of-issue (behind .it) issue there (behind .issue-is) (rw (sym (same (behind .it))) (behind .stands)) in
+      let nothing : length (gather (ofIssue issue) there) ≡ 0 = ap length f in
+      absurd (omega arith)
+  same-first words (word ∷ words-there) e f =
+      let behind = behind-first issue word words-there there f in
+      let only-here = only-of-issue (behind .it) issue here (behind .issue-is) (rw (same (behind .it)) (behind .stands)) once in
+      rw (only-here, f) (behind .word-is)
 
-module _ {capacity : ℕ} {calls moved : List Call} (only-readings : OnlyReadingsMoved calls moved) where
-  -- readings of one issue keep their order
-  pub order-kept : OrderKept capacity calls moved → MovedReadings capacity calls moved
-  order-kept o =
-      record {
-        others = only-readings .others;
-        readings = only-readings .readings;
-        earliest = λ m accepted issue. ap (firstOr noReading) (o .kept m accepted issue);
-      }
+-- the readings of a list that pass a test
+module _ (test : Reading → Bool) where
+  abbrev passing : Reading → List Reading
+  passing r = only (test r) r
 
-  -- no meter has two readings of one issue
-  pub once-per-issue : OncePerIssue capacity calls moved → MovedReadings capacity calls moved
-  once-per-issue o =
-      record {
-        others = only-readings .others;
-        readings = only-readings .readings;
-        earliest = λ m accepted issue.
-            same-first issue (countedReadings calls m) (countedReadings moved m) (o .counted m accepted)
-            (o .once m accepted issue) (o .once-moved m accepted issue) _ _ refl refl;
-      }
+  module _ (y : Reading) (rest : List Reading) where
+    first-passes : test y ≡ true → gather passing (y ∷ rest) ≡ y ∷ gather passing rest
+    unfolding gather only
+    first-passes h = rw h
+
+    first-fails : test y ≡ false → gather passing (y ∷ rest) ≡ gather passing rest
+    unfolding gather only
+    first-fails h = rw h
+
+  times-passing : (x : Reading) (readings : List Reading) → timesIn x (gather passing readings) ≡ cond (test x) (timesIn x readings) 0
+  unfolding gather
+  times-passing x [] = by-test (test x) (λ t. rw t) (λ t. rw t)
+  times-passing x (y ∷ rest) =
+      by-test (sameReading x y)
+      (λ same.
+      let is = ap test (same-is x y same) in
+      by-test (test y)
+      (λ t. rw (first-passes y rest t, times-here x y (gather passing rest) same, times-passing x rest, is, t, times-here x y rest same))
+      (λ t. rw (first-fails y rest t, times-passing x rest, is, t)))
+      (λ differs.
+      by-test (test y)
+      (λ t. rw (first-passes y rest t, times-elsewhere x y (gather passing rest) differs, times-elsewhere x y rest differs) (times-passing x rest))
+      (λ t. rw (first-fails y rest t, times-elsewhere x y rest differs) (times-passing x rest)))
+
+  same-passing : (here there : List Reading) → ((r : Reading) → timesIn r here ≡ timesIn r there) → (r : Reading) → timesIn r (gather passing here) ≡ timesIn r (gather passing there)
+  same-passing here there same r = times-passing r here ∙ ap (λ (n : ℕ). cond (test r) n 0) (same r) ∙ sym (times-passing r there)
+
+  few-passing : (issue : ℕ) (readings : List Reading) → length (gather (ofIssue issue) (gather passing readings)) ≤ length (gather (ofIssue issue) readings)
+  unfolding gather
+  few-passing issue [] = omega arith
+  few-passing issue (y ∷ rest) =
+      by-test (test y)
+      (λ t. rw (first-passes y rest t) (simp length-append (omega (arith, few-passing issue rest))))
+      (λ t. rw (first-fails y rest t) (simp length-append (omega (arith, few-passing issue rest))))
+
+-- a reading of the meter m that is free of causes 2 and 3
+abbrev isFree : ℕ → Reading → Bool
+isFree m r = readingCallInRange m r && qualityAllowed r
+
+free-called : (m : ℕ) (c : Call) → gather (passing (isFree m)) (readingCalled m c) ≡ readingFree m c
+unfolding gather readingCalled readingFree only
+free-called m (register k r) = refl
+free-called m (reading k r) = by-test (eqb k m) (λ e. rw (e, eqb-true k m e) (append-nil (only (isFree m r) r))) (λ e. rw e)
+free-called m (setting x) = refl
+
+-- the readings of an accepted meter that count are those of its reading calls that are free of causes 2 and 3
+counted-free : {capacity : ℕ} (calls : List Call) → AfterRegistration capacity calls → (m : ℕ) → isAccepted capacity calls m ≡ true → countedReadings calls m ≡ gather (passing (isFree m)) (readingsCalled m calls)
+counted-free calls a m accepted =
+    counted-all m calls (a .after m accepted)
+    ∙ sym (gather-gathered (passing (isFree m)) (readingCalled m) (readingFree m) (free-called m) calls)
+
+pub earliest-kept : {capacity : ℕ} {calls moved : List Call} → ReadingsMoved capacity calls moved → EarliestKept capacity calls moved
+earliest-kept {capacity} {calls} {moved} r =
+    record {
+      only-readings = r .only-readings;
+      earliest = λ m accepted issue.
+          let here = readingsCalled m calls in
+          let there = readingsCalled m moved in
+          let accepted-there : isAccepted capacity moved m ≡ true = rw (moved-mpans capacity (r .only-readings)) at accepted in
+          rw (counted-free calls (r .after-registration) m accepted, counted-free moved (r .after-registration-moved) m accepted-there)
+          (same-first issue _ _ (same-passing (isFree m) here there (r .only-readings .readings m))
+          (omega (arith, few-passing (isFree m) issue here, r .once-per-issue .once m accepted issue)) _ _ refl refl);
+    }

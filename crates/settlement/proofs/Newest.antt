@@ -14,7 +14,7 @@ use Rattle.words.proofs.ReadingWord.{reading-packed}
 use Rattle.words.proofs.Tests.{by-test}
 use Rattle.allocation.proofs.Each.{Each, no-entry, entry}
 use Rattle.settlement.specs.Meaning.{only, gather, higherIssue, newestReading}
-use Rattle.settlement.specs.Demand.{ofIssue, firstOr, earliestOf}
+use Rattle.settlement.specs.Moves.{ofIssue, firstOr, earliestOf}
 
 module _ (word later : ℕ) where
   pub later-higher : issueOf word < issueOf later → higherIssue word later ≡ later

@@ -16,7 +16,7 @@ use Rattle.book.proofs.WellFormed.{formed-book}
 use Rattle.book.proofs.RegisterCall.{register-out-of-range, register-no-room, register-known, register-new}
 use Rattle.allocation.proofs.Permuted.{Permuted, keep, chain, to-the-end, mapped}
 use Rattle.settlement.specs.Meaning.{only, gather, settingSet, mpanRegistered, meantMpans, newestReading, meantMeter, meantMeters}
-use Rattle.settlement.specs.Demand.{isIn}
+use Rattle.settlement.specs.Moves.{isIn}
 use Rattle.settlement.proofs.Lists.{eqb-either-way, gather-end, map-after}
 use Rattle.settlement.proofs.Different.{first-again, first-none, first-new, first-full}
 use Rattle.settlement.proofs.Counted.{registered-in, counted-none}

@@ -24,11 +24,13 @@ use Rattle.allocation.proofs.Apportioned.{numeratorsOf}
 use Rattle.allocation.proofs.Counted.{counts-total}
 use Rattle.allocation.proofs.Outcome.{sumsOf, number-given, accepted-answer, accepted-volumes, accepted-total, accepted-distance}
 use Rattle.settlement.specs.Meaning.{meantTake, meantMpans, meantMeters, meantSettings}
-use Rattle.settlement.specs.Demand.{allocationAfter, meantSums, meantNumerators, MovedReadings, countsAnswered, Demand3}
+use Rattle.settlement.specs.Moves.{EarliestKept}
+use Rattle.settlement.specs.Demand.{allocationAfter, meantSums, meantNumerators, countsAnswered, AllocatedAlike, Demand3}
 use Rattle.book.proofs.BookFormed.{capacity-same}
 use Rattle.settlement.proofs.Means.{Means, length-meters}
 use Rattle.settlement.proofs.Meant.{list-meant}
 use Rattle.settlement.proofs.Moved.{moved-settings, moved-meters}
+use Rattle.settlement.proofs.Moves.{earliest-kept}
 
 -- two books with the same settings, and the same meters in any order, are allocated alike
 module _ (b c : Book) (same : b .settings ≡ c .settings) (p : Permuted Row (usedRows b) (usedRows c)) where
@@ -97,7 +99,7 @@ module _ (words : List ℕ) (calls : List Call) where
 -- a list whose readings stand elsewhere is accepted too, with the same answer and volumes
 module _ (words : List ℕ) (calls : List Call) (slice : List ℤ) (h : allocateCall (made words calls) slice .answer .number ≡ accepted)
     (words′ : List ℕ) (calls′ : List Call) (slice′ : List ℤ) (long : length words′ ≡ length words) (room : units ≤ length slice′)
-    (moved : MovedReadings (capacity words) calls calls′) where
+    (kept : EarliestKept (capacity words) calls calls′) where
   same-capacity : capacity words′ ≡ capacity words
   same-capacity = capacity-same words′ words long
 
@@ -105,14 +107,14 @@ module _ (words : List ℕ) (calls : List Call) (slice : List ℤ) (h : allocate
   same-settings =
       means words′ calls′ .settings-meant
       ∙ ap (λ (n : ℕ). meantSettings n calls′) same-capacity
-      ∙ sym (moved-settings moved)
+      ∙ sym (moved-settings (capacity words) (kept .only-readings))
       ∙ sym (means words calls .settings-meant)
 
   same-meters : Permuted Row (usedRows (made words′ calls′)) (usedRows (made words calls))
   same-meters =
       chain (means words′ calls′ .meters-meant)
       (subst (λ (ms : List Row). Permuted Row ms (usedRows (made words calls)))
-      (moved-meters moved ∙ ap (λ (n : ℕ). meantMeters n calls′) (sym same-capacity))
+      (moved-meters kept ∙ ap (λ (n : ℕ). meantMeters n calls′) (sym same-capacity))
       (back (means words calls .meters-meant)))
 
   also-accepted : allocateCall (made words′ calls′) slice′ .answer .number ≡ accepted
@@ -135,18 +137,21 @@ module _ (words : List ℕ) (calls : List Call) (slice : List ℤ) (h : allocate
       ∙ ap₂ volumesOf (ap (λ (s : Settings). s .«take_wh») same-settings) (alike-sums (made words′ calls′) (made words calls) same-settings same-meters)
       ∙ sym (accepted-volumes (made words calls) slice h)
 
+  alike : AllocatedAlike (allocateCall (made words calls) slice) (allocateCall (made words′ calls′) slice′)
+  alike = record { accepted-too = also-accepted; same-answer = moved-answer; same-volumes = moved-volumes }
+
 -- the theorem
 pub demand-3 : Demand3
 unfolding Demand3 allocationAfter
 demand-3 words calls slice h =
     record {
-      total = accepted-total (made words calls) slice h ∙ take-meant words calls;
-      volumes = volumes-meant words calls slice h;
-      figures = answer-meant words calls slice h;
-      distance = distance-meant words calls slice h;
-      meters = meters-counted words calls slice h;
-      moved = λ words′ calls′ slice′ long room same. (
-        moved-answer words calls slice h words′ calls′ slice′ long room same,
-        moved-volumes words calls slice h words′ calls′ slice′ long room same,
-      );
+      settled = record {
+        total = accepted-total (made words calls) slice h ∙ take-meant words calls;
+        volumes = volumes-meant words calls slice h;
+        figures = answer-meant words calls slice h;
+        distance = distance-meant words calls slice h;
+        meters = meters-counted words calls slice h;
+      };
+      moved = λ words′ calls′ slice′ long room same. alike words calls slice h words′ calls′ slice′ long room (earliest-kept same);
+      moved-further = alike words calls slice h;
     }

@@ -14,7 +14,7 @@ use Rattle.book.proofs.Rising.{formed-first}
 use Rattle.book.proofs.PlaceOf.{by-mpan, known-next, known-here, none-above}
 use Rattle.allocation.proofs.Each.{Each, entry}
 use Rattle.allocation.proofs.Permuted.{Permuted, keep, exchange, chain, as-it-is}
-use Rattle.settlement.specs.Demand.{isIn}
+use Rattle.settlement.specs.Moves.{isIn}
 use Rattle.settlement.proofs.Lists.{eqb-either-way}
 
 -- the row of the meter m changed, and any other as it was

@@ -1,20 +1,15 @@
 -- A whole half hour in one call: a fresh book, a list of calls, and the allocation after it.
-use Prim.Native.Nat.{ℕ, zero, suc, _/_, _<_}
+use Prim.Native.Nat.{ℕ, zero, suc, _/_}
 use mathlib.Core.Path.{_≡_}
 use mathlib.Core.List.{List, _++_}
-use lib.IntN.{ℤ, pos, natAbs, _-ℤ_, _*ℤ_}
-use lib.ListN.{length, getD, take, drop}
-use Rattle.integers.specs.Sum.{sum}
-use Rattle.book.specs.Rows.{capacity}
+use lib.IntN.{ℤ}
+use lib.ListN.{length, drop}
 use Rattle.book.specs.Book.{Book, freshBook}
-use Rattle.book.specs.Calls.{Call, bookAfter, numbersGiven}
+use Rattle.book.specs.Calls.{bookAfter, numbersGiven}
 use Rattle.allocation.specs.declared.Allocated.{Allocated}
 use Rattle.allocation.specs.declared.AllocationAnswer.{AllocationAnswer}
-use Rattle.allocation.specs.Correction.{units, weightedTotal}
-use Rattle.allocation.specs.Volumes.{volumesOf}
-use Rattle.allocation.specs.Allocate.{figuresOf, refusedWith}
-use Rattle.settlement.specs.Meaning.{meantTake, meantMpans, meantMeters, meantSettings}
-use Rattle.settlement.specs.Demand.{allocationAfter, meantSums, meantNumerators, countsAnswered}
+use Rattle.allocation.specs.Allocate.{refusedWith}
+use Rattle.settlement.specs.Demand.{allocationAfter, ListSettled}
 use Rattle.settlement.specs.Listed.{callWords, callsIn, listCause}
 
 -- what it leaves: the answer, the book, the numbers of the calls and the volume slice
@@ -39,19 +34,7 @@ settleOutcome (suc k) words ws numbers slice =
 unfoldable pub settleCall : List ℕ → List ℕ → List ℕ → List ℤ → SettleOutcome
 settleCall words ws numbers slice = settleOutcome (listCause ws numbers) words ws numbers slice
 
--- demand 3 of what the call gave: the sum, the volumes, the figures, the distance from the exact shares, and the counts
-pub record ListSettled (words : List ℕ) (calls : List Call) (answer : Allocated) (after : List ℤ) : Type 0 where
-  pub total : sum (take units after) ≡ meantTake calls
-  pub volumes : take units after ≡ volumesOf (meantTake calls) (meantSums (capacity words) calls)
-  pub figures : answer ≡ figuresOf (meantSettings (capacity words) calls) (meantMeters (capacity words) calls)
-  pub distance : (unit : ℕ) → unit < units
-      → natAbs
-      (getD after unit (pos 0) *ℤ weightedTotal (meantSums (capacity words) calls)
-      -ℤ getD (meantNumerators (capacity words) calls) unit (pos 0))
-      < natAbs (weightedTotal (meantSums (capacity words) calls))
-  pub meters : countsAnswered answer ≡ length (meantMpans (capacity words) calls)
-
--- the answer, the rows, the numbers and the volumes afterwards are those of the outcome, and an acceptance has demand 3
+-- the answer, the rows, the numbers and the volumes afterwards are those of the outcome, and of an acceptance demand 3 says what it says of one list
 pub record SettleGives (words ws numbers : List ℕ) (slice : List ℤ) (r : AllocationAnswer) (rowsAfter numbersAfter : List ℕ) (after : List ℤ) : Type 0 where
   pub answer : r .answer ≡ settleCall words ws numbers slice .answer
   pub settings : r .settings ≡ settleCall words ws numbers slice .book .settings
