@@ -8,6 +8,7 @@ mod operations;
 mod plot;
 mod report;
 mod sides;
+mod written;
 
 use std::env;
 use std::fs;
@@ -15,7 +16,7 @@ use std::path::{Path, PathBuf};
 use std::process::ExitCode;
 
 use inputs::Random;
-use measure::{measure, Measured};
+use measure::{measure, Measured, SIZES};
 
 const USAGE: &str = "\
 benchmark: times the proved library beside a Rust version, at 1,024, 8,192 and 65,536 meters
@@ -61,7 +62,7 @@ impl Options {
 fn measure_all(options: &Options) -> Vec<Measured> {
     let mut all = Vec::new();
     println!("{:36} {:>7} {:>9} {:>9} {:>6}", "operation", "meters", "library", "Rust", "ratio");
-    for meters in report::SIZES.into_iter().filter(|meters| *meters <= options.most.unwrap_or(usize::MAX)) {
+    for meters in SIZES.into_iter().filter(|meters| *meters <= options.most.unwrap_or(usize::MAX)) {
         for operation in operations::all(meters, &mut Random(SEED)) {
             if options.wants(operation.name) {
                 let measured = measure(&operation, meters);

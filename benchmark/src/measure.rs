@@ -5,6 +5,9 @@ use std::time::{Duration, Instant};
 use crate::operations::{Operation, Outcome};
 use crate::sides::{Side, LIBRARY, RUST};
 
+/// The numbers of meters that every operation is measured at.
+pub const SIZES: [usize; 3] = [1_024, 8_192, 65_536];
+
 pub struct Measured {
     pub name: &'static str,
     pub meters: usize,

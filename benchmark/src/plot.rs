@@ -1,7 +1,7 @@
 //! A plot of time against meters, a panel for each operation, both axes by powers.
 
-use crate::measure::Measured;
-use crate::report::{grouped, seconds, SIZES};
+use crate::measure::{Measured, SIZES};
+use crate::written::{grouped, seconds};
 
 const PANEL_WIDTH: f64 = 270.0;
 const PANEL_HEIGHT: f64 = 196.0;

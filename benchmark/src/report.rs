@@ -3,34 +3,11 @@
 use std::process::Command;
 
 use crate::measure::Measured;
-
-pub const SIZES: [usize; 3] = [1_024, 8_192, 65_536];
+use crate::written::{grouped, seconds};
 
 /// Everything between these lines is written anew by each run; the rest of the document is kept.
 const START: &str = "<!-- figures: written by the benchmark -->";
 const END: &str = "<!-- end of figures -->";
-
-/// Three digits that count, in the unit that suits.
-pub fn seconds(time: f64) -> String {
-    let (value, unit) = match time {
-        t if t < 1e-3 => (t * 1e6, "µs"),
-        t if t < 1.0 => (t * 1e3, "ms"),
-        t => (t, "s"),
-    };
-    let decimals = match value {
-        v if v < 10.0 => 2,
-        v if v < 100.0 => 1,
-        _ => 0,
-    };
-    format!("{value:.decimals$} {unit}")
-}
-
-pub fn grouped(number: usize) -> String {
-    if number < 1_000 {
-        return number.to_string();
-    }
-    format!("{},{:03}", grouped(number / 1_000), number % 1_000)
-}
 
 pub fn line(m: &Measured) -> String {
     format!(
