@@ -5,7 +5,7 @@ mod fast;
 mod inputs;
 mod measure;
 mod operations;
-mod plot;
+mod pictures;
 mod report;
 mod sides;
 mod written;
@@ -74,13 +74,17 @@ fn measure_all(options: &Options) -> Vec<Measured> {
     report::by_operation(all)
 }
 
+fn write(path: &Path, text: &str) -> Result<(), String> {
+    fs::write(path, text).map_err(|fault| format!("{}: {fault}", path.display()))?;
+    println!("written: {}", path.display());
+    Ok(())
+}
+
 fn write_document(folder: &Path, all: &[Measured]) -> Result<(), String> {
     let path = folder.join("BENCHMARKS.md");
     let document = fs::read_to_string(&path).map_err(|fault| format!("{}: {fault}", path.display()))?;
-    let written = report::into_document(&document, all)?;
-    fs::write(&path, written).map_err(|fault| format!("{}: {fault}", path.display()))?;
-    let plot = folder.join("benchmarks.svg");
-    fs::write(&plot, plot::svg(all)).map_err(|fault| format!("{}: {fault}", plot.display()))
+    write(&path, &report::into_document(&document, all)?)?;
+    pictures::ALL.iter().try_for_each(|picture| write(&folder.join(picture.file), &(picture.draw)(all)))
 }
 
 fn run() -> Result<(), String> {

@@ -3,6 +3,7 @@
 use std::process::Command;
 
 use crate::measure::Measured;
+use crate::pictures;
 use crate::written::{grouped, seconds};
 
 /// Everything between these lines is written anew by each run; the rest of the document is kept.
@@ -81,9 +82,12 @@ pub fn by_operation(all: Vec<Measured>) -> Vec<Measured> {
     all
 }
 
+fn embedded() -> String {
+    pictures::ALL.iter().map(|picture| format!("![{}]({})\n\n", picture.shows, picture.file)).collect()
+}
+
 fn figures(all: &[Measured]) -> String {
-    let plot = "![Time against meters, for each operation](benchmarks.svg)\n";
-    format!("{START}\n{}\n{}\n{plot}\n{}{END}", machine(), times(all), growth(all))
+    format!("{START}\n{}\n{}\n{}{}{END}", machine(), times(all), embedded(), growth(all))
 }
 
 /// Puts the figures into the document in place of the last ones.
