@@ -20,7 +20,7 @@ use measure::{measure, Measured, SIZES};
 
 const USAGE: &str = "\
 benchmark: times the proved library beside a Rust version, at 1,024, 8,192 and 65,536 meters
-  --docs FOLDER  also write the figures into FOLDER/BENCHMARKS.md and draw FOLDER/benchmarks.svg
+  --docs FOLDER  also write the figures into FOLDER/BENCHMARKS.md, and its pictures benchmarks.svg and benchmark-ratios.svg
   --only WORDS   only the operations whose names have these words in them
   --most N       only up to N meters
   --help         print this

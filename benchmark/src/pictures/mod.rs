@@ -1,5 +1,6 @@
-//! The pictures of docs/BENCHMARKS.md, drawn as SVG.
+//! The two pictures of docs/BENCHMARKS.md, drawn as SVG.
 
+mod ratios;
 mod svg;
 mod times;
 
@@ -13,8 +14,15 @@ pub struct Picture {
     pub draw: fn(&[Measured]) -> String,
 }
 
-pub const ALL: [Picture; 1] = [Picture {
-    file: "benchmarks.svg",
-    shows: "Time against meters, for each operation, both on logarithmic scales",
-    draw: times::svg,
-}];
+pub const ALL: [Picture; 2] = [
+    Picture {
+        file: "benchmark-ratios.svg",
+        shows: "The library's time divided by Rust's, for each operation and number of meters",
+        draw: ratios::svg,
+    },
+    Picture {
+        file: "benchmarks.svg",
+        shows: "Time against meters, for each operation, both on logarithmic scales",
+        draw: times::svg,
+    },
+];
