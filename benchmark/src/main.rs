@@ -19,7 +19,8 @@ use inputs::Random;
 use measure::{measure, Measured, SIZES};
 
 const USAGE: &str = "\
-benchmark: times the proved library beside a Rust version, at 1,024, 8,192 and 65,536 meters
+benchmark: times the proved library beside a Rust version, at 1,024, 8,192 and 65,536 meters, and prints a table
+It writes no file unless --docs asks for it.
   --docs FOLDER  also write the figures into FOLDER/BENCHMARKS.md, and its pictures benchmarks.svg and benchmark-ratios.svg
   --only WORDS   only the operations whose names have these words in them
   --most N       only up to N meters
