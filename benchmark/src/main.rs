@@ -81,20 +81,33 @@ fn write(path: &Path, text: &str) -> Result<(), String> {
     Ok(())
 }
 
-fn write_document(folder: &Path, all: &[Measured]) -> Result<(), String> {
-    let path = folder.join("BENCHMARKS.md");
-    let document = fs::read_to_string(&path).map_err(|fault| format!("{}: {fault}", path.display()))?;
-    write(&path, &report::into_document(&document, all)?)?;
-    pictures::ALL.iter().try_for_each(|picture| write(&folder.join(picture.file), &(picture.draw)(all)))
+/// The page that the figures go into, as it stands in its folder.
+struct Page {
+    folder: PathBuf,
+    text: String,
+}
+
+impl Page {
+    const FILE: &str = "BENCHMARKS.md";
+
+    fn of(folder: &Path) -> Result<Page, String> {
+        let path = folder.join(Page::FILE);
+        let text = fs::read_to_string(&path).map_err(|fault| format!("{}: {fault}", path.display()))?;
+        Ok(Page { folder: folder.to_path_buf(), text })
+    }
+
+    fn write(&self, all: &[Measured]) -> Result<(), String> {
+        write(&self.folder.join(Page::FILE), &report::into_document(&self.text, all)?)?;
+        pictures::ALL.iter().try_for_each(|picture| write(&self.folder.join(picture.file), &(picture.draw)(all)))
+    }
 }
 
 fn run() -> Result<(), String> {
     let options = Options::of(env::args().skip(1))?;
+    // Read before measuring, so that a wrong folder is told at once and not after some minutes.
+    let page = options.docs.as_deref().map(Page::of).transpose()?;
     let all = measure_all(&options);
-    match &options.docs {
-        Some(folder) => write_document(folder, &all),
-        None => Ok(()),
-    }
+    page.map_or(Ok(()), |page| page.write(&all))
 }
 
 fn main() -> ExitCode {
