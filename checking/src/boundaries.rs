@@ -124,6 +124,9 @@ pub const BOUNDARIES: &[Boundaries] = &[
     },
 ];
 
+/// Numbers just above and far above those of the Take's flag. It is no argument of a call, so only a damaged book has one.
+pub const TAKE_FLAGS_OUTSIDE: &[u32] = &[2, 3, 256, u32::MAX];
+
 pub fn boundaries(argument: Argument) -> &'static Boundaries {
     let found = &BOUNDARIES[argument as usize];
     debug_assert_eq!(found.argument, argument);

@@ -39,8 +39,8 @@ pub fn same_settings(library: &Settings, model: &Settings) -> Checked {
     same_words("setting weights", &library.weights, &model.weights)?;
     same_words("setting shapes", &library.shapes, &model.shapes)?;
     same("setting tolerance", library.tolerance, model.tolerance)?;
-    same("setting take_wh", library.take_wh, model.take_wh)?;
-    same("setting take_set", library.take_set, model.take_set)
+    same("setting take_set", library.take_set, model.take_set)?;
+    same("setting take_wh", library.take_wh, model.take_wh)
 }
 
 pub fn same_allocated(library: &Allocated, model: &Allocated) -> Checked {
@@ -56,7 +56,7 @@ pub fn same_allocated(library: &Allocated, model: &Allocated) -> Checked {
 /// Settings as a few words: only what differs from a fresh book.
 pub fn settings_in_words(settings: &Settings) -> String {
     let mut words = format!("meters={} tolerance={}", settings.meters, settings.tolerance);
-    let _ = write!(words, " take_wh={} take_set={}", settings.take_wh, settings.take_set);
+    let _ = write!(words, " take_set={} take_wh={}", settings.take_set, settings.take_wh);
     for (class, thousandths) in settings.weights.iter().enumerate() {
         if *thousandths != 0 {
             let _ = write!(words, " weight[{class}]={thousandths}");

@@ -1,10 +1,11 @@
 //! Damage to a book: bits flipped, and words and settings that no accepted call could have written.
 
+use crate::boundaries::TAKE_FLAGS_OUTSIDE;
 use crate::model::ranges::capacity;
 use crate::model::words::{reading_of, reading_word, registration_of, registration_word};
 use crate::named::named;
 use crate::random::Random;
-use cepnhoy::{Reading, Registration, Settings, CATEGORIES, CLASSES, ROW_WORDS};
+use cepnhoy::{Reading, Registration, Settings, CATEGORIES, CLASSES, ROW_WORDS, TAKE_FLAG_SET, TAKE_FLAG_UNSET};
 
 named! {
     DamageKind {
@@ -36,6 +37,7 @@ named! {
         ToleranceAbove => "tolerance above its range",
         TakeOutside => "Take outside its range",
         TakeWithoutFlag => "Take with a value while unset",
+        TakeFlagOutside => "Take's flag neither 0 nor 1",
     }
 }
 
@@ -113,30 +115,43 @@ fn damage_settings(kind: DamageKind, settings: &mut Settings, row_words: usize, 
         DamageKind::ToleranceAbove => {
             settings.tolerance = *random.pick(&[1_001, 1_002, 65_536, u32::MAX]);
         }
+        _ => return damage_take(kind, settings, random),
+    }
+    true
+}
+
+fn damage_take(kind: DamageKind, settings: &mut Settings, random: &mut Random) -> bool {
+    let most = 5_000_000_000;
+    match kind {
         DamageKind::TakeOutside => {
-            settings.take_set = true;
-            let most = 5_000_000_000;
+            settings.take_set = TAKE_FLAG_SET;
             settings.take_wh = *random.pick(&[most + 1, -most - 1, i64::MAX, i64::MIN]);
         }
         DamageKind::TakeWithoutFlag => {
-            settings.take_set = false;
-            let any = random.between_signed(1, 5_000_000_000);
+            settings.take_set = TAKE_FLAG_UNSET;
+            let any = random.between_signed(1, most);
             settings.take_wh = *random.pick(&[1, -1, any, -any, i64::MAX, i64::MIN]);
+        }
+        DamageKind::TakeFlagOutside => {
+            settings.take_set = *random.pick(TAKE_FLAGS_OUTSIDE);
+            // A value that is well formed beside one of the two flags, so that the flag alone decides.
+            let any = random.between_signed(-most, most);
+            settings.take_wh = *random.pick(&[0, 1, any]);
         }
         _ => return false,
     }
     true
 }
 
-/// Any bit of the record but the padding; of the flag only the one bit that it has.
+/// Any bit of the record, which has no padding.
 fn flip_settings_bit(settings: &mut Settings, random: &mut Random) {
     match random.index(6) {
         0 => settings.meters ^= 1 << random.index(64),
         1 => settings.weights[random.index(CLASSES)] ^= 1 << random.index(32),
         2 => settings.shapes[random.index(CATEGORIES)] ^= 1 << random.index(32),
         3 => settings.tolerance ^= 1 << random.index(32),
-        4 => settings.take_wh ^= 1 << random.index(64),
-        _ => settings.take_set = !settings.take_set,
+        4 => settings.take_set ^= 1 << random.index(32),
+        _ => settings.take_wh ^= 1 << random.index(64),
     }
 }
 

@@ -4,7 +4,7 @@ use crate::books::random_call_on;
 use crate::call::Call;
 use crate::check::{check_allocation, check_call, check_listed};
 use crate::compare::{at, settings_in_words, Checked, Failure};
-use crate::damage::Damage;
+use crate::damage::{Damage, DamageKind};
 use crate::lent::Lent;
 use crate::model::Book;
 use crate::observe::{note_call, note_call_on_ill_formed};
@@ -25,6 +25,9 @@ pub fn check_damaged(book: &Book, damage: &Damage, reach: &mut Reach) -> Checked
     reach.note_damage(damage.kind, damaged.is_none());
     if damaged.is_some() && !damage.kind.may_be_well_formed() {
         return Err(Failure(format!("{}: the model takes the book for well formed", damage.kind.words())));
+    }
+    if damage.kind == DamageKind::TakeFlagOutside {
+        reach.note_take_flag(&settings);
     }
     let probes = Probes { lent, book: damaged, mpans: book.mpans() };
     let place = || {

@@ -2,11 +2,12 @@
 
 use std::fmt::Write;
 
-use crate::boundaries::{boundaries, Boundaries, BOUNDARIES};
+use crate::boundaries::{boundaries, Boundaries, BOUNDARIES, TAKE_FLAGS_OUTSIDE};
 use crate::call::Call;
 use crate::damage::DamageKind;
 use crate::model::ranges::in_range;
 use crate::named::named;
+use cepnhoy::Settings;
 
 named! {
     /// What gives a number: the entry points, and the calls inside a list.
@@ -137,6 +138,8 @@ const TOGETHER: &[(u64, u64)] =
 pub struct Reach {
     numbers: Vec<[u64; NUMBERS]>,
     boundaries: Vec<Vec<u64>>,
+    /// For each flag, how often it stood beside a Take of 0, and beside another.
+    take_flags: Vec<[u64; 2]>,
     situations: Vec<u64>,
     damages: Vec<[u64; 2]>,
     together: Vec<u64>,
@@ -149,6 +152,7 @@ impl Default for Reach {
         Reach {
             numbers: vec![[0; NUMBERS]; Entry::ALL.len()],
             boundaries: BOUNDARIES.iter().map(values).collect(),
+            take_flags: vec![[0; 2]; TAKE_FLAGS_OUTSIDE.len()],
             situations: vec![0; Situation::ALL.len()],
             damages: vec![[0; 2]; DamageKind::ALL.len()],
             together: vec![0; TOGETHER.len()],
@@ -200,6 +204,14 @@ impl Reach {
         }
     }
 
+    /// Notes a flag of the Take that is neither 0 nor 1, in settings that are otherwise well formed.
+    pub fn note_take_flag(&mut self, settings: &Settings) {
+        let flags = TAKE_FLAGS_OUTSIDE.iter().zip(&mut self.take_flags);
+        for (_, counts) in flags.filter(|(flag, _)| **flag == settings.take_set) {
+            counts[usize::from(settings.take_wh != 0)] += 1;
+        }
+    }
+
     /// What was never reached.
     pub fn missing(&self) -> Vec<String> {
         let mut missing = Vec::new();
@@ -210,13 +222,7 @@ impl Reach {
                 }
             }
         }
-        for (values, counts) in BOUNDARIES.iter().zip(&self.boundaries) {
-            for (value, count) in values.inside.iter().chain(values.outside).zip(counts) {
-                if *count == 0 {
-                    missing.push(format!("{} {value}", values.words));
-                }
-            }
-        }
+        missing.extend(self.missing_boundaries());
         for ((lower, higher), count) in TOGETHER.iter().zip(&self.together) {
             if *count == 0 {
                 missing.push(format!("causes {lower} and {higher} together"));
@@ -230,6 +236,23 @@ impl Reach {
         for &kind in DamageKind::ALL {
             if self.damages[kind as usize] == [0, 0] {
                 missing.push(format!("damage: {}", kind.words()));
+            }
+        }
+        missing
+    }
+
+    fn missing_boundaries(&self) -> Vec<String> {
+        let mut missing = Vec::new();
+        for (values, counts) in BOUNDARIES.iter().zip(&self.boundaries) {
+            for (value, count) in values.inside.iter().chain(values.outside).zip(counts) {
+                if *count == 0 {
+                    missing.push(format!("{} {value}", values.words));
+                }
+            }
+        }
+        for (flag, [zero, other]) in TAKE_FLAGS_OUTSIDE.iter().zip(&self.take_flags) {
+            if *zero == 0 || *other == 0 {
+                missing.push(format!("Take's flag {flag} beside a Take of 0 and beside another"));
             }
         }
         missing
@@ -278,6 +301,11 @@ impl Reach {
             }
             table.push('\n');
         }
+        let _ = write!(table, "{:27} |", "Take's flag, Take 0 + other");
+        for (flag, [zero, other]) in TAKE_FLAGS_OUTSIDE.iter().zip(&self.take_flags) {
+            let _ = write!(table, " {flag}: {zero} + {other}");
+        }
+        table.push('\n');
     }
 
     fn write_situations(&self, table: &mut String) {

@@ -10,6 +10,10 @@ pub const UNITS: usize = 32;
 pub const ROW_WORDS: usize = 3;
 pub const CALL_WORDS: usize = 10;
 
+/// The flag of the Take in the settings. With any other number there a book isn't well formed.
+pub const TAKE_FLAG_UNSET: u32 = 0;
+pub const TAKE_FLAG_SET: u32 = 1;
+
 /// The kinds of call in a list, first of a call's ten words.
 pub const KIND_REGISTER: u64 = 1;
 pub const KIND_READING: u64 = 2;
@@ -25,8 +29,8 @@ pub struct Settings {
     pub weights: [u32; CLASSES],
     pub shapes: [u32; CATEGORIES],
     pub tolerance: u32,
+    pub take_set: u32,
     pub take_wh: i64,
-    pub take_set: bool,
 }
 
 #[repr(C)]
@@ -77,6 +81,17 @@ pub struct AllocationAnswer {
     pub answer: Allocated,
     pub settings: Settings,
 }
+
+// A record is as long as its fields together, so it has no padding: equal records are equal byte by byte.
+const _: () = {
+    const WORD: usize = 8;
+    assert!(size_of::<Settings>() == size_of::<usize>() + 4 * (CLASSES + CATEGORIES + 2) + WORD);
+    assert!(size_of::<Registration>() == 8 * WORD);
+    assert!(size_of::<Reading>() == 3 * WORD);
+    assert!(size_of::<Answer>() == WORD + size_of::<Settings>());
+    assert!(size_of::<Allocated>() == 7 * WORD);
+    assert!(size_of::<AllocationAnswer>() == size_of::<Allocated>() + size_of::<Settings>());
+};
 
 extern "C" {
     fn cepnhoy_fresh() -> Settings;

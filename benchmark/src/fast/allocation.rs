@@ -4,7 +4,7 @@ use super::rows::{is_formed, used, Row};
 use super::{
     ACCEPTED, BOOK_ILL_FORMED, SHAPE_MISSING, TAKE_UNSET, TOLERANCE_EXCEEDED, VOLUMES_SHORT, WEIGHTED_BELOW_ONE,
 };
-use cepnhoy::{Allocated, AllocationAnswer, Settings, CATEGORIES, CLASSES, UNITS};
+use cepnhoy::{Allocated, AllocationAnswer, Settings, CATEGORIES, CLASSES, TAKE_FLAG_SET, UNITS};
 
 /// Where a meter's energy comes from, as the four counts are numbered.
 const ACTUAL: usize = 0;
@@ -76,7 +76,7 @@ pub fn allocate_formed(settings: &Settings, rows: &[u64], volumes: &mut [i64]) -
     let Some(volumes) = volumes.first_chunk_mut::<UNITS>() else {
         return refused(VOLUMES_SHORT);
     };
-    if !settings.take_set {
+    if settings.take_set != TAKE_FLAG_SET {
         return refused(TAKE_UNSET);
     }
     let gathered = gather(used(rows, settings.meters), &settings.shapes);

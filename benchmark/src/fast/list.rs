@@ -9,7 +9,8 @@ use super::{
 };
 use cepnhoy::{
     Allocated, AllocationAnswer, Answer, Reading, Registration, Settings, CALL_WORDS, CATEGORIES, CLASSES,
-    KIND_READING, KIND_REGISTER, KIND_SHAPE, KIND_TAKE, KIND_TOLERANCE, KIND_WEIGHT, ROW_WORDS,
+    KIND_READING, KIND_REGISTER, KIND_SHAPE, KIND_TAKE, KIND_TOLERANCE, KIND_WEIGHT, ROW_WORDS, TAKE_FLAG_SET,
+    TAKE_FLAG_UNSET,
 };
 
 /// How long the run of new rows may grow.
@@ -105,7 +106,7 @@ fn set(settings: &mut Settings, call: &CallWords) -> u64 {
         KIND_TOLERANCE if first <= 1_000 => settings.tolerance = first as u32,
         KIND_TAKE if (-5_000_000_000..=5_000_000_000).contains(&(first as i64)) => {
             settings.take_wh = first as i64;
-            settings.take_set = true;
+            settings.take_set = TAKE_FLAG_SET;
         }
         _ => return OUT_OF_RANGE,
     }
@@ -154,8 +155,8 @@ pub fn settle_list(rows: &mut [u64], calls: &[u64], numbers: &mut [u64], volumes
         weights: [0; CLASSES],
         shapes: [u32::MAX; CATEGORIES],
         tolerance: 1_000,
+        take_set: TAKE_FLAG_UNSET,
         take_wh: 0,
-        take_set: false,
     };
     let Answer { number, settings } = make_calls(fresh, rows, calls, numbers);
     let answer = if number == ACCEPTED {

@@ -1,7 +1,7 @@
 //! The rows in the lent slice.
 
 use super::words::{is_mpan, is_reading, is_registration};
-use cepnhoy::{Settings, ROW_WORDS};
+use cepnhoy::{Settings, ROW_WORDS, TAKE_FLAG_SET, TAKE_FLAG_UNSET};
 
 pub const METERS_MOST: usize = 65_536;
 
@@ -36,7 +36,11 @@ fn rows_formed(rows: &[Row]) -> bool {
 }
 
 fn settings_formed(s: &Settings) -> bool {
-    let take_formed = if s.take_set { (-5_000_000_000..=5_000_000_000).contains(&s.take_wh) } else { s.take_wh == 0 };
+    let take_formed = match s.take_set {
+        TAKE_FLAG_UNSET => s.take_wh == 0,
+        TAKE_FLAG_SET => (-5_000_000_000..=5_000_000_000).contains(&s.take_wh),
+        _ => false,
+    };
     let weights = s.weights.iter().fold(true, |formed, &w| formed & (w <= 1_000));
     let shapes = s.shapes.iter().fold(true, |formed, &wh| formed & ((wh <= 10_000_000) | (wh == u32::MAX)));
     weights & shapes & take_formed & (s.tolerance <= 1_000)

@@ -94,8 +94,8 @@ impl Book {
             weights: self.weights.map(|thousandths| thousandths as u32),
             shapes: self.shapes.map(shape),
             tolerance: self.tolerance as u32,
+            take_set: u32::from(self.take_wh.is_some()),
             take_wh: self.take_wh.unwrap_or(0),
-            take_set: self.take_wh.is_some(),
         }
     }
 
@@ -223,11 +223,12 @@ fn read_tolerance(settings: &Settings) -> Option<u64> {
     in_range(Argument::Tolerance, g.into()).then_some(g)
 }
 
-/// The Take, if it is set; while it is unset its value must be 0.
+/// The Take, if its flag says that it is set; while it is unset its value must be 0. Nobody writes another flag than these two.
 fn read_take(settings: &Settings) -> Option<Option<i64>> {
     let wh = settings.take_wh;
-    if !settings.take_set {
-        return (wh == 0).then_some(None);
+    match settings.take_set {
+        0 => (wh == 0).then_some(None),
+        1 => in_range(Argument::Take, wh.into()).then_some(Some(wh)),
+        _ => None,
     }
-    in_range(Argument::Take, wh.into()).then_some(Some(wh))
 }

@@ -11,6 +11,7 @@ use borrow.Author.Tests.{not-false, ltb-false}
 use Rattle.integers.proofs.Linear.{linear}
 use Rattle.integers.proofs.Order.{lt-false}
 use Rattle.book.specs.declared.Settings.{Settings}
+use Rattle.book.specs.Settings.{takeIsSet}
 use Rattle.book.specs.Rows.{Row}
 use Rattle.book.specs.Book.{Book, usedRows, wellFormed}
 use Rattle.book.specs.Causes.{accepted}
@@ -27,7 +28,7 @@ pub record SumsAccepted (s : Settings) (sums : List UnitSums) : Type 0 where
 
 -- of settings and meters
 pub record MetersAccepted (s : Settings) (meters : List Row) : Type 0 where
-  pub take-set : s .«take_set» ≡ true
+  pub take-set : takeIsSet s ≡ true
   pub no-shape-missing : anyLacksShape (s .shapes) meters ≡ false
   pub sums : SumsAccepted s (allUnitSums s meters)
 
@@ -46,7 +47,7 @@ sums-accepted s sums h =
 pub meters-accepted : (s : Settings) (meters : List Row) → metersCause s meters ≡ accepted → MetersAccepted s meters
 unfolding metersCause
 meters-accepted s meters h =
-    let k = passed (not (s .«take_set»)) _ _ h in
+    let k = passed (not (takeIsSet s)) _ _ h in
     let l = passed (anyLacksShape (s .shapes) meters) _ _ (k .1) in
     record { take-set = not-false _ (k .0); no-shape-missing = l .0; sums = sums-accepted s (allUnitSums s meters) (l .1) }
 

@@ -1,19 +1,21 @@
 -- The sizes that an allocation of a well-formed book can reach: a cell, n and a of a unit, U and W.
 use Prim.Native.Nat.{ℕ, _≤_}
 use mathlib.Core.Path.{_≡_}
-use mathlib.Core.Bool.{Bool, true, false, and-eq-true-iff}
+use mathlib.Core.Bool.{true, _&&_, and-eq-true-iff}
 use mathlib.Core.List.{List, map}
+use mathlib.Core.Logic.{⊎-elim}
 use native.Mathlib.Omega.{arith}
+use lib.Dec.{eqb}
 use lib.ListN.{length}
 use lib.IntN.{ℤ, natAbs}
-use lib.Signed.{leZ}
 use borrow.Author.Tests.{leb-true, eqb-true}
 use Rattle.integers.specs.Sum.{sum}
 use Rattle.integers.proofs.Order.{le-true}
 use Rattle.integers.proofs.Size.{size-minus, within}
-use Rattle.book.specs.Limits.{takeLeast, takeMost}
+use Rattle.words.proofs.Tests.{either}
+use Rattle.book.specs.Limits.{takeLeast, takeMost, takeFlagUnset, takeFlagSet}
 use Rattle.book.specs.declared.Settings.{Settings}
-use Rattle.book.specs.Settings.{isWeight, takeFormed, allOf}
+use Rattle.book.specs.Settings.{isWeight, isTake, takeFormed, allOf}
 use Rattle.book.specs.Rows.{Row, capacity}
 use Rattle.book.specs.Book.{Book, usedRows, wellFormed}
 use Rattle.book.proofs.RowsOf.{length-rows}
@@ -34,12 +36,15 @@ pub record Limited (s : Settings) (meters : List Row) : Type 0 where
   pub tolerance : s .tolerance ≤ 1000
   pub take-wh : natAbs (s .«take_wh») ≤ 5000000000
 
-take-most : (set : Bool) (wh : ℤ) → takeFormed set wh ≡ true → natAbs wh ≤ 5000000000
+take-most : (flag : ℕ) (wh : ℤ) → takeFormed flag wh ≡ true → natAbs wh ≤ 5000000000
 unfolding takeFormed
-take-most true wh h =
-    let parts = and-eq-true-iff (leZ takeLeast wh) (leZ wh takeMost) .0 h in
-    within (le-true takeLeast wh (parts .0)) (le-true wh takeMost (parts .1))
-take-most false wh h = omega (arith, eqb-true (natAbs wh) 0 h)
+take-most flag wh h =
+    ⊎-elim
+    (λ unset. omega (arith, eqb-true (natAbs wh) 0 (simp and-eq-true-iff at unset .1)))
+    (λ set.
+    let parts = simp and-eq-true-iff at set .1 in
+    within (le-true takeLeast wh (parts .0)) (le-true wh takeMost (parts .1)))
+    (either (eqb flag takeFlagUnset && eqb (natAbs wh) 0) (eqb flag takeFlagSet && isTake wh) h)
 
 -- as those of a well-formed book are
 pub book-limited : (b : Book) → wellFormed b ≡ true → Limited (b .settings) (usedRows b)

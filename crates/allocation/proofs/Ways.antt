@@ -8,6 +8,7 @@ use lib.IntN.{ℤ, pos}
 use lib.ListN.{length}
 use lib.Signed.{ltZ}
 use Rattle.book.specs.declared.Settings.{Settings}
+use Rattle.book.specs.Settings.{takeIsSet}
 use Rattle.book.specs.Book.{Book, usedRows, wellFormed}
 use Rattle.book.specs.Causes.{refuse, accepted, bookIllFormed, volumesShort, takeUnset, shapeOfDefaultMissing, weightedBelowOne, toleranceExceeded}
 use Rattle.book.specs.Contracts.{lent}
@@ -50,11 +51,11 @@ module _ (s : Settings) (words : List ℕ) (wf : wellFormed (lent s words) ≡ t
   way-short h = refusal (lent s words) slice 6 (rw (wf, lt-ltb (length slice) units h))
 
   module _ (long : units ≤ length slice) where
-    pub way-unset : s .«take_set» ≡ false → AllocatedAs (allocateCall (lent s words) slice) (refusedWith takeUnset) slice
+    pub way-unset : takeIsSet s ≡ false → AllocatedAs (allocateCall (lent s words) slice) (refusedWith takeUnset) slice
     unfolding allocationCause metersCause
     way-unset h = refusal (lent s words) slice 7 (rw (wf, le-ltb (length slice) units long, h))
 
-    module _ (set : s .«take_set» ≡ true) where
+    module _ (set : takeIsSet s ≡ true) where
       pub way-lacks : anyLacksShape (s .shapes) (metersIn s words) ≡ true → AllocatedAs (allocateCall (lent s words) slice) (refusedWith shapeOfDefaultMissing) slice
       unfolding allocationCause metersCause usedRows
       way-lacks h = refusal (lent s words) slice 8 (rw (wf, le-ltb (length slice) units long, set, h))

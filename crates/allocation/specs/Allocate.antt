@@ -7,6 +7,7 @@ use lib.IntN.{ℤ, pos, natAbs}
 use lib.Signed.{ltZ}
 use lib.ListN.{length, drop}
 use Rattle.book.specs.declared.Settings.{Settings}
+use Rattle.book.specs.Settings.{takeIsSet}
 use Rattle.book.specs.Rows.{Row}
 use Rattle.book.specs.Book.{Book, usedRows, wellFormed}
 use Rattle.book.specs.Causes.{refuse, accepted, bookIllFormed, volumesShort, takeUnset, shapeOfDefaultMissing, weightedBelowOne, toleranceExceeded}
@@ -29,7 +30,7 @@ sumsCause s sums =
 -- causes 8 to 11, of settings and meters
 unfoldable pub metersCause : Settings → List Row → ℕ
 metersCause s meters =
-    refuse (not (s .«take_set»)) takeUnset
+    refuse (not (takeIsSet s)) takeUnset
     (refuse (anyLacksShape (s .shapes) meters) shapeOfDefaultMissing
     (sumsCause s (allUnitSums s meters)))
 

@@ -9,7 +9,7 @@ use lib.Signed.{_<ℤ_}
 use Rattle.integers.specs.Rounding.{nearestWh}
 use Rattle.book.specs.declared.Settings.{Settings}
 use Rattle.book.specs.Limits.{metersMost, classes, categories}
-use Rattle.book.specs.Settings.{isShape, allOf}
+use Rattle.book.specs.Settings.{isShape, allOf, takeIsSet}
 use Rattle.book.specs.Rows.{Row, rowsOf, rowsFormed}
 use Rattle.book.specs.Book.{wellFormed}
 use Rattle.book.specs.Contracts.{lent}
@@ -197,7 +197,7 @@ pub record AllocatedAs (o : Allocation) (answer : Allocated) (volumesAfter : Lis
 pub record CorrectionOf (s : Settings) (words : List ℕ) (takeWh : ℤ) (tolerance : ℕ) (nets weighted : List ℤ) (counts : List ℕ) (volumes : List ℤ) : Type 0 where
   pub formed : wellFormed (lent s words) ≡ true
   pub volumes-long : units ≤ length volumes
-  pub take-set : s .«take_set» ≡ true
+  pub take-set : takeIsSet s ≡ true
   pub shaped : anyLacksShape (s .shapes) (rowsOf (s .meters) words) ≡ false
   pub take-is : takeWh ≡ s .«take_wh»
   pub tolerance-is : tolerance ≡ s .tolerance

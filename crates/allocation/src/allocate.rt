@@ -110,7 +110,7 @@ pub fn allocate_formed(settings: Settings, rows: &[u64], volumes: &mut [i64]) ->
     if volumes.len() < 32 {
         return refused(VOLUMES_SHORT);
     }
-    if !settings.take_set {
+    if settings.take_set != Settings::TAKE_FLAG_SET {
         return refused(TAKE_UNSET);
     }
     let shapes = settings.shapes;

@@ -33,3 +33,10 @@ takeLeast = negℤ (pos 5000000000)
 
 abbrev pub takeMost : ℤ
 takeMost = pos 5000000000
+
+-- "with a flag that it is set": the numbers of the flag; no other number is one
+abbrev pub takeFlagUnset : ℕ
+takeFlagUnset = 0
+
+abbrev pub takeFlagSet : ℕ
+takeFlagSet = 1

@@ -1,13 +1,13 @@
 -- "Settings, held in a record by value".
 use Prim.Native.Nat.{ℕ}
-use mathlib.Core.Bool.{Bool, true, false, _&&_, _||_}
+use mathlib.Core.Bool.{Bool, true, _&&_, _||_}
 use mathlib.Core.List.{List, [], _∷_}
 use lib.Dec.{leb, eqb}
 use lib.IntN.{ℤ, pos, natAbs}
 use lib.Signed.{leZ}
 use lib.ListN.{set, replicate}
 use Rattle.book.specs.declared.Settings.{Settings}
-use Rattle.book.specs.Limits.{classes, weightMost, categories, shapeMost, shapeMissing, toleranceMost, takeLeast, takeMost}
+use Rattle.book.specs.Limits.{classes, weightMost, categories, shapeMost, shapeMissing, toleranceMost, takeLeast, takeMost, takeFlagUnset, takeFlagSet}
 
 -- "A fresh book has 0 meters, all weights 0, all shapes missing, g = 1,000, no Take"
 abbrev pub freshSettings : Settings
@@ -17,8 +17,8 @@ freshSettings =
       weights = replicate classes 0;
       shapes = replicate categories shapeMissing;
       tolerance = toleranceMost;
+      «take_set» = takeFlagUnset;
       «take_wh» = pos 0;
-      «take_set» = false;
     }
 
 -- "24 weights (thousandths, 0 to 1,000)"
@@ -37,10 +37,13 @@ isTolerance g = leb g toleranceMost
 abbrev pub isTake : ℤ → Bool
 isTake wh = leZ takeLeast wh && leZ wh takeMost
 
--- "with a flag that it is set (value 0 while unset)"
-unfoldable pub takeFormed : Bool → ℤ → Bool
-takeFormed true wh = isTake wh
-takeFormed false wh = eqb (natAbs wh) 0
+-- "with a flag that it is set (value 0 while unset)": any other flag is ill formed, whatever the value
+unfoldable pub takeFormed : ℕ → ℤ → Bool
+takeFormed flag wh = (eqb flag takeFlagUnset && eqb (natAbs wh) 0) || (eqb flag takeFlagSet && isTake wh)
+
+-- "a flag that it is set"
+abbrev pub takeIsSet : Settings → Bool
+takeIsSet s = eqb (s .«take_set») takeFlagSet
 
 -- every number of a list passes a test
 unfoldable pub allOf : (ℕ → Bool) → List ℕ → Bool
@@ -64,8 +67,8 @@ withMeters n s =
       weights = s .weights;
       shapes = s .shapes;
       tolerance = s .tolerance;
-      «take_wh» = s .«take_wh»;
       «take_set» = s .«take_set»;
+      «take_wh» = s .«take_wh»;
     }
 
 abbrev pub withWeight : ℕ → ℕ → Settings → Settings
@@ -75,8 +78,8 @@ withWeight class thousandths s =
       weights = set (s .weights) class thousandths;
       shapes = s .shapes;
       tolerance = s .tolerance;
-      «take_wh» = s .«take_wh»;
       «take_set» = s .«take_set»;
+      «take_wh» = s .«take_wh»;
     }
 
 abbrev pub withShape : ℕ → ℕ → Settings → Settings
@@ -86,8 +89,8 @@ withShape category wh s =
       weights = s .weights;
       shapes = set (s .shapes) category wh;
       tolerance = s .tolerance;
-      «take_wh» = s .«take_wh»;
       «take_set» = s .«take_set»;
+      «take_wh» = s .«take_wh»;
     }
 
 abbrev pub withTolerance : ℕ → Settings → Settings
@@ -97,8 +100,8 @@ withTolerance g s =
       weights = s .weights;
       shapes = s .shapes;
       tolerance = g;
-      «take_wh» = s .«take_wh»;
       «take_set» = s .«take_set»;
+      «take_wh» = s .«take_wh»;
     }
 
 abbrev pub withTake : ℤ → Settings → Settings
@@ -108,6 +111,6 @@ withTake wh s =
       weights = s .weights;
       shapes = s .shapes;
       tolerance = s .tolerance;
+      «take_set» = takeFlagSet;
       «take_wh» = wh;
-      «take_set» = true;
     }

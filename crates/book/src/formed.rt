@@ -45,10 +45,12 @@ pub fn is_take(wh: i64) -> bool
     (Settings::TAKE_MIN <= wh) & (wh <= Settings::TAKE_MAX)
 }
 
-fn take_formed(set: bool, wh: i64) -> bool
-    ensures { λ r. ⌜ r ≡ takeFormed set wh ⌝ }
+// Whether a flag and the Take beside it are well formed.
+fn take_formed(flag: u32, wh: i64) -> bool
+    ensures { λ r. ⌜ r ≡ takeFormed flag wh ⌝ }
 {
-    if set { is_take(wh) } else { wh == 0 }
+    ((flag == Settings::TAKE_FLAG_UNSET) & (wh == 0))
+        | ((flag == Settings::TAKE_FLAG_SET) & is_take(wh))
 }
 
 // Whether every number of a list is at most `most` or is `other`.

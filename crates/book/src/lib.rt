@@ -8,15 +8,16 @@ pub mod replace;
 pub mod rows;
 pub mod store;
 
-// The settings, passed in and returned.
+// The settings, passed in and returned. Whatever bytes a C program passes are numbers that the contracts speak of: the flag of the
+// Take is no `bool`, which has two values only, and the order of the fields leaves no padding.
 #[repr(C)]
 pub struct Settings {
     pub meters: usize,
     pub weights: [u32; 24],
     pub shapes: [u32; 64],
     pub tolerance: u32,
+    pub take_set: u32,
     pub take_wh: i64,
-    pub take_set: bool,
 }
 
 // What a call that writes the book answers: 0 or the number of its refusal, and the settings.
@@ -57,6 +58,11 @@ impl Settings {
 
     pub const TAKE_MAX: i64 = 5_000_000_000;
 
+    // The two numbers that the flag of the Take may be.
+    pub const TAKE_FLAG_UNSET: u32 = 0;
+
+    pub const TAKE_FLAG_SET: u32 = 1;
+
     // The settings of a fresh book.
     pub fn fresh() -> Settings
         ensures { λ r. ⌜ r ≡ freshSettings ⌝ }
@@ -66,8 +72,8 @@ impl Settings {
             weights: [0; 24],
             shapes: [4_294_967_295; 64],
             tolerance: 1_000,
+            take_set: Self::TAKE_FLAG_UNSET,
             take_wh: 0,
-            take_set: false,
         }
     }
 }

@@ -76,7 +76,7 @@ pub fn replace_take(settings: Settings, wh: i64) -> Answer
     }
     let mut made = settings;
     made.take_wh = wh;
-    made.take_set = true;
+    made.take_set = Settings::TAKE_FLAG_SET;
     Answer {
         number: ACCEPTED,
         settings: made,

@@ -1,7 +1,7 @@
 -- What a list means for the settings, with one more call at its end: an in-range call that sets a setting replaces that setting, and no other call bears on them.
 use Prim.Native.Nat.{ℕ}
 use mathlib.Core.Path.{_≡_, refl, sym, _∙_, fun-ext}
-use mathlib.Core.Bool.{true, or-true}
+use mathlib.Core.Bool.{true, cond, or-true}
 use mathlib.Core.List.{List, [], _∷_, _++_, map}
 use native.Mathlib.Omega.{arith}
 use borrow.Author.Tests.{eqb-true, eqb-false, eq-eqb, ne-eqb}
@@ -10,7 +10,7 @@ use lib.ListN.{length, getD, set, length-set}
 use lib.Seq.{take-nil, getD-set-same, getD-set-other}
 use Rattle.words.proofs.Tests.{by-test}
 use Rattle.book.specs.declared.Settings.{Settings}
-use Rattle.book.specs.Limits.{classes, categories}
+use Rattle.book.specs.Limits.{classes, categories, takeFlagUnset, takeFlagSet}
 use Rattle.book.specs.Settings.{freshSettings, withMeters}
 use Rattle.book.specs.Calls.{Setting, shape, weight, tolerance, groupTake, Call, setting, settingInRange, withSetting}
 use Rattle.allocation.specs.Cells.{countFrom}
@@ -62,8 +62,8 @@ settingsFrom n xs =
       weights = map (tableOf freshWeight weightSet xs) (countFrom 0 classes);
       shapes = map (tableOf freshShape shapeSet xs) (countFrom 0 categories);
       tolerance = lastOr (freshSettings .tolerance) (gather toleranceSet xs);
+      «take_set» = cond (isAny (gather takeSet xs)) takeFlagSet takeFlagUnset;
       «take_wh» = lastOr (freshSettings .«take_wh») (gather takeSet xs);
-      «take_set» = isAny (gather takeSet xs);
     }
 
 meant-from : (capacity : ℕ) (calls : List Call) → meantSettings capacity calls ≡ settingsFrom (length (meantMpans capacity calls)) (settingsSet calls)

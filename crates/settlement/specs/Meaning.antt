@@ -10,7 +10,7 @@ use Rattle.words.specs.declared.Reading.{Reading}
 use Rattle.words.specs.Registration.{registrationWord}
 use Rattle.words.specs.Reading.{noReading, issueOf, qualityAllowed, readingWord}
 use Rattle.book.specs.declared.Settings.{Settings}
-use Rattle.book.specs.Limits.{classes, categories}
+use Rattle.book.specs.Limits.{classes, categories, takeFlagUnset, takeFlagSet}
 use Rattle.book.specs.Settings.{freshSettings}
 use Rattle.book.specs.Rows.{Row}
 use Rattle.book.specs.Calls.{Setting, shape, weight, tolerance, groupTake, Call, register, reading, setting, settingInRange, registerInRange, readingCallInRange}
@@ -77,13 +77,14 @@ meantTolerance calls = lastOr (freshSettings .tolerance) (gather toleranceSet (s
 unfoldable pub meantTake : List Call → ℤ
 meantTake calls = lastOr (freshSettings .«take_wh») (gather takeSet (settingsSet calls))
 
--- "with a flag that it is set"
+-- whether a list has an entry
 unfoldable pub isAny : {A : Type 0} → List A → Bool
 isAny [] = false
 isAny (x ∷ xs) = true
 
-unfoldable pub meantTakeSet : List Call → Bool
-meantTakeSet calls = isAny (gather takeSet (settingsSet calls))
+-- "with a flag that it is set": the flag of whether any call in range sets the Take
+unfoldable pub meantTakeSet : List Call → ℕ
+meantTakeSet calls = cond (isAny (gather takeSet (settingsSet calls))) takeFlagSet takeFlagUnset
 
 -- "an in-range register call": the MPAN of one
 unfoldable pub mpanRegistered : Call → List ℕ
@@ -160,6 +161,6 @@ meantSettings capacity calls =
       weights = map (meantWeight calls) (countFrom 0 classes);
       shapes = map (meantShape calls) (countFrom 0 categories);
       tolerance = meantTolerance calls;
-      «take_wh» = meantTake calls;
       «take_set» = meantTakeSet calls;
+      «take_wh» = meantTake calls;
     }

@@ -4,13 +4,15 @@ use mathlib.Core.Path.{_≡_, refl, sym, _∙_}
 use mathlib.Core.Bool.{true}
 use mathlib.Core.List.{List}
 use borrow.Author.Needs.{needs}
-use borrow.Author.Tests.{not-true, not-false}
+use borrow.Author.Tests.{eq-eqb, ne-eqb}
 use lib.IntN.{ℤ}
 use lib.ListN.{length}
 use mir.Syntax.{w64}
 use mir.Val.{ofZ, toZ}
 use mir.ValLaws.{toZ-ofZ}
 use Rattle.book.specs.declared.Settings.{Settings}
+use Rattle.book.specs.Limits.{takeFlagSet}
+use Rattle.book.specs.Settings.{takeIsSet}
 use Rattle.allocation.specs.Cells.{countFrom}
 use Rattle.allocation.specs.Correction.{units}
 use Rattle.allocation.specs.Contracts.{tableOf, CorrectionOf}
@@ -26,8 +28,8 @@ start c = c .before .before .before .before .before .before .before .before .bef
 long : (c : tie.After-gather) → units ≤ length (start c .args .volumes .now)
 long c = c .before .before .before .before .before .before .before .before .if1 .left
 
-take-set : (c : tie.After-gather) → start c .args .settings .«take_set» ≡ true
-take-set c = not-false _ (c .before .before .before .before .before .before .if2 .left)
+take-set : (c : tie.After-gather) → takeIsSet (start c .args .settings) ≡ true
+take-set c = eq-eqb (start c .args .settings .«take_set») takeFlagSet (c .before .before .before .before .before .before .if2 .left)
 
 abbrev counts : tie.After-gather → List ℕ
 counts c = c .gather .last .1 .1 .1 .1 .0
@@ -44,7 +46,7 @@ refused-requires-2 c κs = search needs
 returns-2 : tie.Need-returns-2
 returns-2 c =
     let s = c .before .before .before .before .before in
-    rw (c .refused2 .ensures) (way-unset _ _ (s .pre) _ (c .before .before .before .if1 .left) (not-true _ (c .before .if2 .taken)))
+    rw (c .refused2 .ensures) (way-unset _ _ (s .pre) _ (c .before .before .before .if1 .left) (ne-eqb (s .args .settings .«take_set») takeFlagSet (c .before .if2 .taken)))
 
 gather-requires : tie.Need-gather-requires
 unfolding tableOf countFrom

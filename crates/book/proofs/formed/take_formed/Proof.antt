@@ -1,6 +1,7 @@
 -- `take_formed` is the test of the Take and its flag. Where the flag is clear, the code compares bits with 0 and the definition the size. Assumes nothing.
 use Prim.Native.Nat.{suc, _-_, _^_}
-use mathlib.Core.Path.{_≡_, refl, sym, _∙_, ap}
+use mathlib.Core.Path.{_≡_, refl, sym, _∙_, ap, ap₂}
+use mathlib.Core.Bool.{_&&_, _||_}
 use native.Mathlib.Omega.{arith}
 use borrow.Author.Needs.{needs}
 use borrow.Author.Tests.{ne-eqb}
@@ -9,6 +10,7 @@ use lib.IntN.{ℤ, pos, negsuc, natAbs}
 use mir.Syntax.{w64}
 use mir.Val.{SFits, ofZ}
 use mir.ValLaws.{toZ-ofZ}
+use Rattle.book.specs.Limits.{takeFlagUnset, takeFlagSet}
 use Rattle.book.specs.Settings.{isTake, takeFormed}
 use Rattle.book.proofs.formed.take_formed.Statement.{statement}
 use Rattle.book.proofs.formed.take_formed.Tie as tie
@@ -25,12 +27,11 @@ is-take-requires c κs = search needs
 returns : tie.Need-returns
 unfolding takeFormed
 returns c =
-    let wh = c .before .before .args .wh in
-    rw (c .before .if1 .taken) (c .is-take .ensures ∙ ap isTake (toZ-ofZ w64 wh (c .before .before .fits .wh)))
-
-returns-2 : tie.Need-returns-2
-unfolding takeFormed
-returns-2 c = rw (c .if1 .left) (zero-bits (c .before .args .wh) (c .before .fits .wh))
+    let s = c .before in
+    let wh = s .args .wh in
+    ap₂ (λ a b. (eqb (s .args .flag) takeFlagUnset && a) || (eqb (s .args .flag) takeFlagSet && b))
+    (zero-bits wh (s .fits .wh))
+    (c .is-take .ensures ∙ ap isTake (toZ-ofZ w64 wh (s .fits .wh)))
 
 pub take-formed-spec : {M : Type 1} → statement M
-take-formed-spec = tie.close (tie.spec is-take-requires returns returns-2)
+take-formed-spec = tie.close (tie.spec is-take-requires returns)
