@@ -8,7 +8,7 @@ use lib.ListN.{length, getD, length-map}
 use lib.Signed.{_<ℤ_}
 use Rattle.integers.specs.Sum.{sum}
 use Rattle.integers.specs.Quotient.{floorOf}
-use Rattle.integers.proofs.Floor.{fraction-below}
+use Rattle.integers.proofs.Floor.{quotient-most, fraction-below}
 use Rattle.integers.proofs.Size.{size-plus, size-positive}
 use Rattle.allocation.specs.declared.UnitSums.{UnitSums}
 use Rattle.allocation.specs.Correction.{units, netIn, weightedIn, weightedTotal, shareNumerator, shareFloor, shareFraction}
@@ -16,7 +16,6 @@ use Rattle.allocation.specs.Volumes.{lackingWh, roundedVolumes, volumesF
 use Rattle.allocation.specs.Contracts.{TotalArguments, ShareDownArguments, SharedDown, HandOutArguments, ApportionArguments}
 use Rattle.allocation.proofs.Entries.{entry-map, by-place}
 use Rattle.allocation.proofs.Apportioned.{noSums, floorsOf, share-split, lacking-is, lacking-at-most-31}
-use Rattle.allocation.proofs.Quotients.{quotient-most}
 
 module _ {takeWh u w : ℤ} {nets weighted part : List ℤ} (given : ApportionArguments takeWh u w nets weighted part) where
   -- as many as there are units

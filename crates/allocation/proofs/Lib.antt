@@ -18,7 +18,6 @@ pub mod CellBounds
 pub mod SumBounds
 pub mod Bounds
 -- the last watt-hours
-pub mod Quotients
 pub mod CountWhere
 pub mod Ranked
 pub mod Keys

@@ -2,7 +2,7 @@
 use Prim.Native.Nat.{ℕ, suc, _+_, _-_, _*_, _/_, _%_, _≤_, _<_}
 use mathlib.Core.Path.{_≡_, sym, ap, _∙_}
 use native.Mathlib.Omega.{arith}
-use native.Mathlib.Nat.{le-refl, le-trans, mod-lt, div-add-mod', div-mul-le-self, div-le-self, le-div-iff-mul-le, add-div-right}
+use native.Mathlib.Nat.{le-refl, le-trans, mod-lt, div-add-mod', div-mul-le-self, div-le-self, le-div-iff-mul-le, add-div-right, div-le-of-le-mul, div-lt-iff-lt-mul, mul-le-mul-right}
 use lib.IntN.{ℤ, pos, negsuc, natAbs, _+ℤ_, _-ℤ_, _*ℤ_}
 use lib.Dec.{le→leb}
 use lib.Signed.{_≤ℤ_, _<ℤ_, leZ-yes}
@@ -12,6 +12,7 @@ use Rattle.integers.specs.declared.Division.{Division}
 use Rattle.integers.proofs.Linear.{linear, plus, minus, times}
 use Rattle.integers.proofs.Ring.{plus-times}
 use Rattle.integers.proofs.Order.{antisymmetric, le-of-lt-next, times-cancel-lt}
+use Rattle.integers.proofs.Size.{size-times}
 
 -- a division of sizes: the whole, and what is left
 pub division-whole : (x d : ℕ) {r : Division} → r ≡ divisionOf x d → r .quotient * d + r .remainder ≡ x
@@ -36,6 +37,16 @@ pub size-floor : (x : ℤ) (d : ℕ) → natAbs (floorOf x d) ≤ natAbs x
 unfolding floorOf
 size-floor (pos n) d = div-le-self n d
 size-floor (negsuc n) d = omega (arith, div-le-self n d)
+
+-- no larger than d goes into a bound
+pub floor-most : (x : ℤ) (d m : ℕ) → 0 < d → natAbs x ≤ m * d → natAbs (floorOf x d) ≤ m
+unfolding floorOf
+floor-most (pos n) d m p h = div-le-of-le-mul d (omega arith)
+floor-most (negsuc n) d m p h = div-lt-iff-lt-mul p .1 h
+
+-- where U is no larger than W, U × a / W is no larger than a
+pub quotient-most : (u a w : ℤ) → 0 < natAbs w → natAbs u ≤ natAbs w → natAbs (floorOf (u *ℤ a) (natAbs w)) ≤ natAbs a
+quotient-most u a w p h = floor-most (u *ℤ a) (natAbs w) (natAbs a) p (omega (arith, size-times u a, mul-le-mul-right (natAbs a) h))
 
 pub fraction-below : (x : ℤ) (d : ℕ) → 0 < d → fractionOf x d < d
 unfolding fractionOf

@@ -12,13 +12,13 @@ use Rattle.integers.specs.Quotient.{floorOf, fractionOf, quotientOf}
 use Rattle.integers.specs.Share.{ShareArguments}
 use Rattle.integers.proofs.Fit.{Held, fit, held, plus-fits, plus-held}
 use Rattle.integers.proofs.Size.{size-positive}
+use Rattle.integers.proofs.Floor.{quotient-most}
 use Rattle.allocation.specs.declared.UnitSums.{UnitSums}
 use Rattle.allocation.specs.Correction.{units, netIn, weightedIn, shareFloor, shareFraction}
 use Rattle.allocation.specs.Contracts.{ShareDownArguments, SharedDown}
 use Rattle.allocation.proofs.Entries.{entry-map}
 use Rattle.allocation.proofs.Apportioned.{noSums, share-split, fraction-split}
 use Rattle.allocation.proofs.Filled.{Filled, filled-none, filled-next, filled-all}
-use Rattle.allocation.proofs.Quotients.{quotient-most}
 use Rattle.allocation.proofs.shares.share_down.Statement.{statement}
 use Rattle.allocation.proofs.shares.share_down.Tie as tie
 
