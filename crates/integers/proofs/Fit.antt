@@ -2,11 +2,13 @@
 use Prim.Native.Nat.{ℕ, _+_, _*_, _^_, _≤_, _<_}
 use mathlib.Core.Path.{_≡_, refl, _∙_}
 use mathlib.Core.Bool.{true, false}
+use native.Mathlib.Omega.{arith}
 use native.Mathlib.Nat.{le-refl}
 use lib.IntN.{ℤ, pos, negsuc, natAbs, _+ℤ_, _-ℤ_, _*ℤ_}
-use lib.Signed.{mag, ltZ, _≤ℤ_, _<ℤ_}
+use lib.Dec.{T}
+use lib.Signed.{mag, ltZ, _≤ℤ_, _<ℤ_, nonNeg, yes-nonNeg, natAbs-le}
 use mir.Syntax.{w64}
-use mir.Val.{SFits, toZ, ofZ}
+use mir.Val.{Fits, SFits, toZ, ofZ}
 use mir.ValLaws.{toZ-ofZ, toZ-pos}
 use Rattle.integers.proofs.Linear.{linear, minus, size}
 use Rattle.integers.proofs.Order.{lt-true, lt-false}
@@ -15,6 +17,10 @@ use Rattle.integers.proofs.Size.{plus-bound, minus-bound, times-bound}
 -- by a bound: at a number that is written out, `B < 2 ^ 63` is `lit< tt`
 pub fit : (x : ℤ) (B : ℕ) → natAbs x ≤ B → B < 2 ^ 63 → SFits w64 x
 fit x B h t = omega (linear, size x)
+
+-- what a cast to a u64 asks
+pub cast-fits : (z : ℤ) → SFits w64 z → pos 0 ≤ℤ z → T (nonNeg z) × Fits w64 (natAbs z)
+cast-fits z f h = (yes-nonNeg h, omega (arith, natAbs-le z (f .sfits)))
 
 -- the bits n are read as z, whose size is at most B
 pub record Held (n : ℕ) (z : ℤ) (B : ℕ) : Type 0 where

@@ -1,44 +1,31 @@
 -- Quotients by a number above 0, rounded down, and their fractions.
-use Prim.Native.Nat.{ℕ, suc, _+_, _-_, _*_, _/_, _%_, _≤_, _<_}
+use Prim.Native.Nat.{ℕ, _-_, _*_, _/_, _%_, _≤_, _<_}
 use mathlib.Core.Path.{_≡_, sym, ap, _∙_}
 use native.Mathlib.Omega.{arith}
-use native.Mathlib.Nat.{le-refl, le-trans, mod-lt, div-add-mod', div-mul-le-self, div-le-self, le-div-iff-mul-le, add-div-right, div-le-of-le-mul, div-lt-iff-lt-mul, mul-le-mul-right}
+use native.Mathlib.Nat.{mod-lt, div-add-mod', div-le-self, div-le-of-le-mul, div-lt-iff-lt-mul, mul-le-mul-right}
 use lib.IntN.{ℤ, pos, negsuc, natAbs, _+ℤ_, _-ℤ_, _*ℤ_}
 use lib.Dec.{le→leb}
 use lib.Signed.{_≤ℤ_, _<ℤ_, leZ-yes}
+use mir.Syntax.{w64}
+use mir.Val.{SFits}
 use Rattle.integers.specs.Quotient.{floorOf, fractionOf}
-use Rattle.integers.specs.Share.{divisionOf}
-use Rattle.integers.specs.declared.Division.{Division}
 use Rattle.integers.proofs.Linear.{linear, plus, minus, times}
 use Rattle.integers.proofs.Ring.{plus-times}
 use Rattle.integers.proofs.Order.{antisymmetric, le-of-lt-next, times-cancel-lt}
 use Rattle.integers.proofs.Size.{size-times}
 
--- a division of sizes: the whole, and what is left
-pub division-whole : (x d : ℕ) {r : Division} → r ≡ divisionOf x d → r .quotient * d + r .remainder ≡ x
-division-whole x d e = rw e (div-add-mod' x d)
-
-pub division-left : (x d : ℕ) {r : Division} → r ≡ divisionOf x d → 0 < d → r .remainder < d
-division-left x d e h = rw e (mod-lt x h)
-
--- a larger number has no smaller quotient
-pub div-mono : {a b : ℕ} (d : ℕ) → 0 < d → a ≤ b → a / d ≤ b / d
-div-mono {a} d p h = le-div-iff-mul-le p .1 (le-trans (div-mul-le-self a d) h)
-
--- sizes: the quotient of the size is at most the size of the quotient, and that at most the size
-pub size-div : (x : ℤ) (d : ℕ) → 0 < d → natAbs x / d ≤ natAbs (floorOf x d)
-unfolding floorOf
-size-div (pos n) d p = le-refl (n / d)
-size-div (negsuc n) d p =
-    let h : suc n ≤ n + d = omega arith in
-    omega (arith, div-mono d p h, add-div-right n p)
-
+-- the quotient is no larger than x
 pub size-floor : (x : ℤ) (d : ℕ) → natAbs (floorOf x d) ≤ natAbs x
 unfolding floorOf
 size-floor (pos n) d = div-le-self n d
 size-floor (negsuc n) d = omega (arith, div-le-self n d)
 
--- no larger than d goes into a bound
+pub floor-fits : (x : ℤ) (d : ℕ) → SFits w64 x → SFits w64 (floorOf x d)
+unfolding floorOf
+floor-fits (pos n) d f = record { sfits = omega (arith, div-le-self n d) }
+floor-fits (negsuc n) d f = record { sfits = omega (arith, div-le-self n d) }
+
+-- and no larger than d goes into a bound of x
 pub floor-most : (x : ℤ) (d m : ℕ) → 0 < d → natAbs x ≤ m * d → natAbs (floorOf x d) ≤ m
 unfolding floorOf
 floor-most (pos n) d m p h = div-le-of-le-mul d (omega arith)

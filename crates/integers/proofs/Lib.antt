@@ -6,5 +6,6 @@ pub mod Size
 pub mod Fit
 pub mod Sum
 pub mod Floor
+pub mod Cut
 pub mod FloorSum
 pub mod Nearest

@@ -1,7 +1,7 @@
 -- Sums, differences and products of ℤ that `lib.IntN` does not have. What is linear, `omega (linear, ..)` proves where it is wanted.
 use Prim.Native.Nat.{ℕ, _-_, _*_, _≤_}
-use mathlib.Core.Path.{_≡_, ap, _∙_}
-use lib.IntN.{ℤ, pos, negℤ, _+ℤ_, _-ℤ_, _*ℤ_}
+use mathlib.Core.Path.{_≡_, sym, ap, _∙_}
+use lib.IntN.{ℤ, pos, negℤ, _+ℤ_, _-ℤ_, _*ℤ_, *ℤ-comm}
 use Rattle.integers.proofs.Linear.{linear, above, below, opposite, plus, minus, times}
 
 pub times-one : (a : ℤ) → a *ℤ pos 1 ≡ a
@@ -41,6 +41,9 @@ module _ (a b c : ℤ) where
   pub times-assoc : a *ℤ b *ℤ c ≡ a *ℤ (b *ℤ c)
   times-assoc =
       omega (linear, times (a *ℤ b) c, ap (λ n. n * above c) (times a b), ap (λ n. n * below c) (times a b), times a (b *ℤ c), ap (λ n. above a * n) (times b c), ap (λ n. below a * n) (times b c))
+
+pub times-exchange : (a b c : ℤ) → a *ℤ b *ℤ c ≡ a *ℤ c *ℤ b
+times-exchange a b c = times-assoc a b c ∙ ap (λ z. a *ℤ z) (*ℤ-comm b c) ∙ sym (times-assoc a c b)
 
 pub times-minus : (a b c : ℤ) → a *ℤ (b -ℤ c) ≡ a *ℤ b -ℤ a *ℤ c
 times-minus a b c = times-plus a b (negℤ c) ∙ ap (λ z. a *ℤ b +ℤ z) (times-neg a c)

@@ -1,17 +1,16 @@
--- `floor_quotient` meets its contract. Below 0 the code divides -1 - x, which is how far x is below -1: nothing leaves the range of an i64.
-use mathlib.Core.Path.{_≡_, ap, sym, _∙_}
-use Prim.Native.Nat.{ℕ, _/_, _<_}
-use native.Mathlib.Omega.{arith}
-use native.Mathlib.Nat.{div-le-self}
+-- `floor_quotient` meets its contract, by the sign of the processor's remainder.
+use mathlib.Core.Path.{_≡_, sym, _∙_}
+use Prim.Native.Nat.{ℕ, _<_}
 use lib.Dec.{ltb→lt}
-use lib.IntN.{ℤ, pos, negsuc, natAbs}
-use lib.Signed.{_≤ℤ_, _<ℤ_, quotZ, mag}
+use lib.IntN.{ℤ, pos, negsuc, natAbs, _+ℤ_, _-ℤ_}
+use lib.Signed.{_≤ℤ_, _<ℤ_, quotZ, remZ, pos-natAbs, yes-nonNeg}
 use mir.Syntax.{w64}
 use mir.Val.{SFits, ofZ, toZ}
 use mir.ValLaws.{toZ-ofZ}
-use Rattle.integers.specs.Quotient.{floorOf}
-use Rattle.integers.proofs.Linear.{linear}
-use Rattle.integers.proofs.Fit.{tested-lt, tested-ge, below-zero, from-zero, held-from-zero, distance-fits, distance-is, down-from-minus-one}
+use Rattle.integers.proofs.Order.{lt-true, lt-false, le-of-lt}
+use Rattle.integers.proofs.Size.{size-positive}
+use Rattle.integers.proofs.Fit.{cast-fits}
+use Rattle.integers.proofs.Cut.{cut-fits, left-fits, cut-above, cut-below, one-less-fits, raised-low, raised-fits}
 use Rattle.integers.proofs.floor_quotient.Statement.{statement}
 use Rattle.integers.proofs.floor_quotient.Tie as tie
 
@@ -19,59 +18,84 @@ positive-bits : (d : ℤ) → pos 0 <ℤ d → 0 < ofZ w64 d
 positive-bits (pos n) p = ltb→lt 0 n (p .lt)
 positive-bits (negsuc n) p = absurd (p .lt)
 
-quotient-fits : (x d : ℤ) → SFits w64 x → SFits w64 (pos (mag x / natAbs d))
-quotient-fits x d f = record { sfits = omega (arith, div-le-self (mag x) (natAbs d)) }
+-- what the code divides, and what it holds then
+module _ (c : tie.Start) where
+  abbrev x : ℤ
+  x = c .args .x
 
-toward-zero : (n : ℕ) (d : ℤ) → SFits w64 d → pos 0 <ℤ d → quotZ (pos n) (toZ w64 (ofZ w64 d)) ≡ pos (n / natAbs d)
-toward-zero n (pos k) f p = rw (toZ-ofZ w64 (pos k) f)
-toward-zero n (negsuc k) f p = absurd (p .lt)
+  abbrev d : ℕ
+  d = natAbs (c .args .d)
+
+  positive : 0 < d
+  positive = size-positive _ (c .pre)
+
+  d-is : c .args .d ≡ pos d
+  d-is = sym (pos-natAbs _ (yes-nonNeg (le-of-lt (c .pre))))
+
+  read-x : toZ w64 (ofZ w64 x) ≡ x
+  read-x = toZ-ofZ w64 x (c .fits .x)
+
+  read-d : toZ w64 (ofZ w64 (c .args .d)) ≡ pos d
+  read-d = toZ-ofZ w64 _ (c .fits .d) ∙ d-is
+
+  divides : (0 < ofZ w64 (c .args .d)) × SFits w64 (quotZ (toZ w64 (ofZ w64 x)) (toZ w64 (ofZ w64 (c .args .d))))
+  divides = (positive-bits _ (c .pre), rw (read-x, read-d) (cut-fits x d (c .fits .x)))
+
+  quotient-is : toZ w64 (ofZ w64 (quotZ (toZ w64 (ofZ w64 x)) (toZ w64 (ofZ w64 (c .args .d))))) ≡ quotZ x (pos d)
+  quotient-is = rw (read-x, read-d) (toZ-ofZ w64 _ (cut-fits x d (c .fits .x)))
+
+  remainder-is : toZ w64 (ofZ w64 (remZ (toZ w64 (ofZ w64 x)) (toZ w64 (ofZ w64 (c .args .d))))) ≡ remZ x (pos d)
+  remainder-is = rw (read-x, read-d) (toZ-ofZ w64 _ (left-fits x (pos d) (c .fits .x)))
+
+  -- with a remainder below 0
+  module _ (h : remZ x (pos d) <ℤ pos 0) where
+    less : SFits w64 (quotZ x (pos d) -ℤ pos 1)
+    less = one-less-fits x d positive h (c .fits .x)
+
+    raised : SFits w64 (remZ x (pos d) +ℤ pos d)
+    raised = raised-fits x d positive h (rw d-is at (c .fits .d))
 
 -- the sign that the test found
-module _ (c : tie.Then1) where
-  negative : c .before .args .x <ℤ pos 0
-  negative = omega (linear, tested-lt (c .before .args .x) _ (c .before .fits .x) (c .if1 .taken))
+negative : (c : tie.Then1) → remZ (x (c .before)) (pos (d (c .before))) <ℤ pos 0
+negative c = lt-true _ _ (rw (remainder-is (c .before)) at (c .if1 .taken))
 
-module _ (c : tie.Else1) where
-  nonnegative : pos 0 ≤ℤ c .before .args .x
-  nonnegative = omega (linear, tested-ge (c .before .args .x) _ (c .before .fits .x) (c .if1 .left))
+nonnegative : (c : tie.Else1) → pos 0 ≤ℤ remZ (x (c .before)) (pos (d (c .before)))
+nonnegative c = lt-false _ _ (rw (remainder-is (c .before)) at (c .if1 .left))
 
-sub-result : tie.Need-sub-result
-sub-result c = distance-fits _ (c .before .fits .x)
+div-quotient : tie.Need-div-quotient
+div-quotient c = divides c
 
-div-result : tie.Need-div-result
-div-result c =
-    let s = c .before in (
-      positive-bits _ (s .pre),
-      rw (distance-is _ (s .fits .x) (negative c), toward-zero _ _ (s .fits .d) (s .pre)) (quotient-fits _ (s .args .d) (s .fits .x)),
-    )
+rem-remainder : tie.Need-rem-remainder
+rem-remainder c = divides c
 
-sub-result-2 : tie.Need-sub-result-2
-sub-result-2 c =
+sub-t6 : tie.Need-sub-t6
+sub-t6 c = rw (quotient-is (c .before)) (less (c .before) (negative c))
+
+add-t7 : tie.Need-add-t7
+add-t7 c = rw (remainder-is (c .before), read-d (c .before)) (raised (c .before) (negative c))
+
+cast-t8 : tie.Need-cast-t8
+cast-t8 c =
     let s = c .before in
-    rw (distance-is _ (s .fits .x) (negative c), toward-zero _ _ (s .fits .d) (s .pre)) (distance-fits _ (quotient-fits _ (s .args .d) (s .fits .x)))
-
-div-result-2 : tie.Need-div-result-2
-div-result-2 c =
-    let s = c .before in (
-      positive-bits _ (s .pre),
-      rw (held-from-zero _ (s .fits .x) (nonnegative c), toward-zero _ _ (s .fits .d) (s .pre)) (quotient-fits _ (s .args .d) (s .fits .x)),
-    )
+    let f = raised s (negative c) in
+    rw (remainder-is s, read-d s, toZ-ofZ w64 _ f) (cast-fits _ f (raised-low (x s) (d s) (positive s) (negative c)))
 
 returns : tie.Need-returns
-unfolding floorOf
 returns c =
     let s = c .before in
-    let f = quotient-fits _ (s .args .d) (s .fits .x) in
-    rw (distance-is _ (s .fits .x) (negative c), toward-zero _ _ (s .fits .d) (s .pre), toZ-ofZ w64 _ f, down-from-minus-one)
-    (toZ-ofZ w64 _ (record { sfits = f .sfits }) ∙ sym (ap (λ z. floorOf z (natAbs (s .args .d))) (below-zero _ (negative c))))
+    rw (quotient-is s, remainder-is s, read-d s, toZ-ofZ w64 _ (less s (negative c)), toZ-ofZ w64 _ (raised s (negative c)))
+    (cut-below (x s) (d s) (positive s) (negative c))
+
+cast-t9 : tie.Need-cast-t9
+cast-t9 c =
+    let s = c .before in
+    rw (remainder-is s) (cast-fits _ (left-fits (x s) (pos (d s)) (s .fits .x)) (nonnegative c))
 
 returns-2 : tie.Need-returns-2
-unfolding floorOf
 returns-2 c =
     let s = c .before in
-    rw (held-from-zero _ (s .fits .x) (nonnegative c), toward-zero _ _ (s .fits .d) (s .pre))
-    (toZ-ofZ w64 _ (quotient-fits _ (s .args .d) (s .fits .x)) ∙ sym (ap (λ z. floorOf z (natAbs (s .args .d))) (from-zero _ (nonnegative c))))
+    rw (quotient-is s, remainder-is s) (cut-above (x s) (d s) (positive s) (nonnegative c))
 
 pub floor-quotient-spec : {M : Type 1} → statement M
 floor-quotient-spec =
-    tie.close (tie.spec sub-result div-result sub-result-2 div-result-2 returns returns-2)
+    tie.close (tie.spec div-quotient rem-remainder sub-t6 add-t7 cast-t8 returns cast-t9 returns-2)

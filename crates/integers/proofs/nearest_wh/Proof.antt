@@ -12,6 +12,7 @@ use mir.ValLaws.{toZ-ofZ}
 use Rattle.integers.specs.Rounding.{nearestWh}
 use Rattle.integers.proofs.Linear.{linear, plus, opposite, size}
 use Rattle.integers.proofs.Fit.{Held, held, held-literal, plus-fits, plus-held, tested-lt, tested-ge}
+use Rattle.integers.proofs.Cut.{cut-fits}
 use Rattle.integers.proofs.Nearest.{nearest-size}
 use Rattle.integers.proofs.nearest_wh.Statement.{statement}
 use Rattle.integers.proofs.nearest_wh.Tie as tie
@@ -53,12 +54,8 @@ nearest-fits t f = omega (linear, size (nearestWh t), nearest-size t, natAbs-le 
 halves-held : (t : ℤ) → SFits w64 t → Held (ofZ w64 (quotZ (toZ w64 (ofZ w64 t)) (pos 500))) (halves t) 18446744073709552
 halves-held t f = rw (toZ-ofZ w64 t f) (held (halves t) 18446744073709552 (halves-size t f) (lit< tt))
 
-halves-fit : (t : ℤ) → SFits w64 t → SFits w64 (halves t)
-halves-fit (pos n) f = omega linear
-halves-fit (negsuc n) f = omega (linear, opposite (pos (suc n / 500)))
-
 div-halves : tie.Need-div-halves
-div-halves c = (lit< tt, rw (toZ-ofZ w64 (c .args .thousandths) (c .fits .thousandths)) (halves-fit _ (c .fits .thousandths)))
+div-halves c = (lit< tt, rw (toZ-ofZ w64 (c .args .thousandths) (c .fits .thousandths)) (cut-fits (c .args .thousandths) 500 (c .fits .thousandths)))
 
 -- what is held on the way
 module _ (c : tie.Joined1) where

@@ -1,119 +1,76 @@
--- `share_quotient` meets its contract: the division of the sizes, and the sign put back.
-use mathlib.Core.Path.{_≡_, refl, ap, _∙_}
-use mathlib.Core.Bool.{Bool, true, false, not, Bool·beq}
-use Prim.Native.Nat.{_*_, _/_, _^_, _<_}
-use native.Mathlib.Omega.{arith}
+-- `share_quotient` meets its contract: |U| times a, negated where U is below 0, is U × a.
+use mathlib.Core.Path.{_≡_, refl, sym, ap, _∙_}
+use mathlib.Core.Logic.{⊎-elim}
+use Prim.Native.Nat.{ℕ, suc, _≤_}
 use borrow.Author.Needs.{needs}
-use lib.Dec.{leb·suc-zero}
-use lib.IntN.{ℤ, pos, negsuc, natAbs, negℤ, _*ℤ_}
-use lib.Signed.{ltZ, natAbs-le, yes-nonNeg, _≤ℤ_}
+use lib.Dec.{lit<}
+use lib.IntN.{ℤ, pos, negsuc, natAbs, negℤ, _-ℤ_, _*ℤ_, +ℤ-idl}
+use lib.Signed.{_≤ℤ_, _<ℤ_}
 use mir.Syntax.{w64}
-use mir.Val.{SFits, toZ, ofZ}
-use mir.ValLaws.{toZ-ofZ, toZ-pos}
-use Rattle.integers.specs.Quotient.{floorOf, fractionOf}
-use Rattle.integers.specs.Share.{ShareArguments, divisionOf}
+use mir.Val.{toZ, ofZ}
+use mir.ValLaws.{toZ-ofZ}
 use Rattle.integers.proofs.Linear.{linear}
-use Rattle.integers.proofs.Size.{size-times, size-positive}
-use Rattle.integers.proofs.Floor.{size-div, division-whole, division-left}
+use Rattle.integers.proofs.Ring.{neg-times, times-neg}
+use Rattle.integers.proofs.Fit.{Held, held, held-literal, minus-fits, minus-held, tested-lt, tested-ge}
 use Rattle.integers.proofs.share_quotient.Statement.{statement}
 use Rattle.integers.proofs.share_quotient.Tie as tie
 
--- the sign of a product
-signs-differ : (u a : ℤ) → not (Bool·beq (ltZ u (pos 0)) (ltZ a (pos 0))) ≡ true → u *ℤ a ≡ negℤ (pos (natAbs u * natAbs a))
-signs-differ (pos m) (pos n) t = let e : false ≡ true = simp leb·suc-zero at t in cc
-signs-differ (pos m) (negsuc n) t = refl
-signs-differ (negsuc m) (pos n) t = refl
-signs-differ (negsuc m) (negsuc n) t = cc
+-- a with the sign of U
+abbrev signed : ℤ → ℤ → ℤ
+signed (pos n) a = a
+signed (negsuc n) a = negℤ a
 
-signs-agree : (u a : ℤ) → not (Bool·beq (ltZ u (pos 0)) (ltZ a (pos 0))) ≡ false → u *ℤ a ≡ pos (natAbs u * natAbs a)
-signs-agree (pos m) (pos n) t = refl
-signs-agree (pos m) (negsuc n) t = let e : true ≡ false = simp leb·suc-zero at t in cc
-signs-agree (negsuc m) (pos n) t = let e : true ≡ false = simp leb·suc-zero at t in cc
-signs-agree (negsuc m) (negsuc n) t = refl
+same-product : (u a : ℤ) → pos (natAbs u) *ℤ signed u a ≡ u *ℤ a
+same-product (pos n) a = refl
+same-product (negsuc n) a = times-neg (pos (suc n)) a ∙ sym (neg-times (pos (suc n)) a)
 
-read-signs : (u a : ℤ) (t : Bool) → SFits w64 u → SFits w64 a
-    → not (Bool·beq (ltZ (toZ w64 (ofZ w64 u)) (pos 0)) (ltZ (toZ w64 (ofZ w64 a)) (pos 0))) ≡ t → not (Bool·beq (ltZ u (pos 0)) (ltZ a (pos 0))) ≡ t
-read-signs u a t f g e = rw (toZ-ofZ w64 u f, toZ-ofZ w64 a g) at e
+-- as the code holds it
+module _ (a : ℤ) (h : natAbs a ≤ 1400000000000000) where
+  a-held : Held (ofZ w64 a) a 1400000000000000
+  a-held = held a 1400000000000000 h (lit< tt)
 
-in-u64 : (u a w : ℤ) → ShareArguments u a w → natAbs u * natAbs a / natAbs w < 2 ^ 64
-in-u64 u a w g =
-    omega (arith, rw size-times at (size-div (u *ℤ a) (natAbs w) (size-positive w (g .w-positive))), natAbs-le (floorOf (u *ℤ a) (natAbs w)) (g .in-range .sfits))
+  signed-below : (u : ℤ) {n : ℕ} → u <ℤ pos 0 → n ≡ ofZ w64 (pos 0 -ℤ toZ w64 (ofZ w64 a)) → Held n (signed u a) 1400000000000000
+  signed-below (pos m) s e = absurd (omega linear)
+  signed-below (negsuc m) s e = rw (e, ← (+ℤ-idl (negℤ a))) (minus-held (held-literal 0 (lit< tt)) a-held (lit< tt))
 
--- the sizes and the divisor are those of the arguments
-module _ (c : tie.After-magnitude2) where
-  u-size : c .before .magnitude .result ≡ natAbs (c .before .before .args .u)
-  u-size = c .before .magnitude .ensures ∙ ap natAbs (toZ-ofZ w64 _ (c .before .before .fits .u))
+  signed-above : (u : ℤ) {n : ℕ} → pos 0 ≤ℤ u → n ≡ ofZ w64 a → Held n (signed u a) 1400000000000000
+  signed-above (pos m) s e = rw e a-held
+  signed-above (negsuc m) s e = absurd (omega linear)
 
-  a-size : c .magnitude2 .result ≡ natAbs (c .before .before .args .a)
-  a-size = c .magnitude2 .ensures ∙ ap natAbs (toZ-ofZ w64 _ (c .before .before .fits .a))
+signed-held : (c : tie.Joined1) → Held (c .if1 .signed) (signed (c .before .args .u) (c .before .args .a)) 1400000000000000
+signed-held c =
+    let s = c .before in
+    let h = s .pre .a-bound in
+    ⊎-elim
+    (λ w. signed-below (s .args .a) h (s .args .u) (tested-lt (s .args .u) (pos 0) (s .fits .u) (w .0 .taken)) (w .1))
+    (λ w. signed-above (s .args .a) h (s .args .u) (tested-ge (s .args .u) (pos 0) (s .fits .u) (w .0 .left)) (w .1))
+    (c .if1 .came)
 
-  divisor : toZ w64 (ofZ w64 (c .before .before .args .w)) ≡ c .before .before .args .w
-  divisor = toZ-ofZ w64 _ (c .before .before .fits .w)
+u-size : (c : tie.After-magnitude) → c .magnitude .result ≡ natAbs (c .before .before .args .u)
+u-size c = c .magnitude .ensures ∙ ap natAbs (toZ-ofZ w64 _ (c .before .before .fits .u))
 
-module _ (c : tie.After-product-quotient) where
-  size-is : c .product-quotient .result
-      ≡ divisionOf (natAbs (c .before .before .before .args .u) * natAbs (c .before .before .before .args .a)) (natAbs (c .before .before .before .args .w))
-  size-is = rw (divisor (c .before), u-size (c .before), a-size (c .before)) at (c .product-quotient .ensures)
-
-cast-divisor : tie.Need-cast-divisor
-cast-divisor c =
-    let h : pos 0 ≤ℤ c .args .w = omega linear in
-    rw (toZ-ofZ w64 (c .args .w) (c .fits .w)) (yes-nonNeg h, omega arith)
+sub-signed : tie.Need-sub-signed
+sub-signed c = minus-fits (held-literal 0 (lit< tt)) (a-held (c .before .args .a) (c .before .pre .a-bound)) (lit< tt)
 
 magnitude-requires : tie.Need-magnitude-requires
 magnitude-requires c κs = search needs
 
-magnitude-requires-2 : tie.Need-magnitude-requires-2
-magnitude-requires-2 c κs = search needs
-
 product-quotient-requires : tie.Need-product-quotient-requires
 product-quotient-requires c κs =
-    let p = c .before .before .pre in
-    rw (divisor c, u-size c, a-size c)
-    (p .u-bound, (p .a-bound, (size-positive _ (p .w-positive), (p .w-bound, in-u64 _ _ _ p))))
-
-module _ (c : tie.Then1) where
-  differ : c .before .before .before .before .args .u *ℤ c .before .before .before .before .args .a
-      ≡ negℤ (pos (natAbs (c .before .before .before .before .args .u) * natAbs (c .before .before .before .before .args .a)))
-  differ =
-      let s = c .before .before .before .before in
-      signs-differ (s .args .u) (s .args .a) (read-signs _ _ true (s .fits .u) (s .fits .a) (c .if1 .taken))
-
-module _ (c : tie.Else1) where
-  agree : c .before .before .before .before .args .u *ℤ c .before .before .before .before .args .a
-      ≡ pos (natAbs (c .before .before .before .before .args .u) * natAbs (c .before .before .before .before .args .a))
-  agree =
-      let s = c .before .before .before .before in
-      signs-agree (s .args .u) (s .args .a) (read-signs _ _ false (s .fits .u) (s .fits .a) (c .if1 .left))
-
-opposite-quotient-requires : tie.Need-opposite-quotient-requires
-opposite-quotient-requires c κs =
-    let p = c .before .before .before .before .pre in
-    rw (divisor (c .before .before), division-whole _ _ (size-is (c .before)))
-    (division-left _ _ (size-is (c .before)) (size-positive _ (p .w-positive)), rw (differ c) at (p .in-range))
+    let s = c .before .before in
+    rw (u-size c, signed-held (c .before) .reads, toZ-ofZ w64 _ (s .fits .w))
+    (record {
+      u-bound = s .pre .u-bound;
+      a-bound = signed-held (c .before) .bound;
+      w-bound = s .pre .w-bound;
+      w-positive = s .pre .w-positive;
+      u-within-w = s .pre .u-within-w;
+    })
 
 returns : tie.Need-returns
-returns c = rw (divisor (c .before .before .before), division-whole _ _ (size-is (c .before .before)), ← (differ (c .before))) at (c .opposite-quotient .ensures)
-
-cast-t11 : tie.Need-cast-t11
-unfolding floorOf
-cast-t11 c =
-    let p = c .before .before .before .before .before .pre in
-    rw (size-is (c .before .before)) (rw (agree (c .before)) at (p .in-range))
-
-returns-2 : tie.Need-returns-2
-unfolding floorOf fractionOf
-returns-2 c = rw (toZ-pos w64 _ (cast-t11 c .sfits), size-is (c .before .before), agree (c .before))
+returns c =
+    let s = c .before .before .before in
+    rw (u-size (c .before), signed-held (c .before .before) .reads, toZ-ofZ w64 _ (s .fits .w), same-product (s .args .u) (s .args .a)) at (c .product-quotient .ensures)
 
 pub share-quotient-spec : {M : Type 1} → statement M
-share-quotient-spec =
-    tie.close
-    (tie.spec
-    cast-divisor
-    magnitude-requires
-    magnitude-requires-2
-    product-quotient-requires
-    opposite-quotient-requires
-    returns
-    cast-t11
-    returns-2)
+share-quotient-spec = tie.close (tie.spec sub-signed magnitude-requires product-quotient-requires returns)

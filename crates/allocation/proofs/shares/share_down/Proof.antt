@@ -69,10 +69,11 @@ module _ {u w : ℤ} {nets weighted floors₀ : List ℤ} {fractions₀ : List �
     net-held : Held (ofZ w64 net) net 100000000000000000
     net-held = held net 100000000000000000 (args .nets-bound i) (omega arith)
 
+    small : natAbs u ≤ natAbs w
+    small = omega (arith, args .within-tolerance)
+
     correction-small : natAbs correction ≤ 1400000000000000
-    correction-small =
-        let h : natAbs u ≤ natAbs w = omega (arith, args .within-tolerance) in
-        omega (arith, quotient-most u (getD weighted i (pos 0)) w (size-positive w (args .w-positive)) h, args .weighted-bound i)
+    correction-small = omega (arith, quotient-most u (getD weighted i (pos 0)) w (size-positive w (args .w-positive)) small, args .weighted-bound i)
 
     correction-held : Held (ofZ w64 correction) correction 1400000000000000
     correction-held = held correction 1400000000000000 correction-small (omega arith)
@@ -84,7 +85,7 @@ module _ {u w : ℤ} {nets weighted floors₀ : List ℤ} {fractions₀ : List �
           a-bound = args .weighted-bound i;
           w-bound = args .w-bound;
           w-positive = args .w-positive;
-          in-range = fit correction 1400000000000000 correction-small (omega arith);
+          u-within-w = small;
         }
 
     module _ (sums : List UnitSums) (n : nets ≡ map netIn sums) (a : weighted ≡ map weightedIn sums) (h : i < units) where
