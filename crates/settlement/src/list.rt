@@ -31,17 +31,17 @@ pub const CALL_WORDS: usize = 10;
 
 // The kinds of call.
 
-pub const REGISTER: u64 = 1;
+pub const KIND_REGISTER: u64 = 1;
 
-pub const READING: u64 = 2;
+pub const KIND_READING: u64 = 2;
 
-pub const SHAPE: u64 = 3;
+pub const KIND_SHAPE: u64 = 3;
 
-pub const WEIGHT: u64 = 4;
+pub const KIND_WEIGHT: u64 = 4;
 
-pub const TOLERANCE: u64 = 5;
+pub const KIND_TOLERANCE: u64 = 5;
 
-pub const TAKE: u64 = 6;
+pub const KIND_TAKE: u64 = 6;
 
 // A calls slice that is no whole number of calls, or a numbers slice that is too short.
 pub const LIST_MISSHAPEN: u64 = 19;
@@ -118,7 +118,7 @@ fn row_call(first: usize, later: usize, near: usize, rows: &mut [u64], call: &[u
     ensures { λ r. ⌜ StoresApart (λ b. callOutcome b (callOf (now (call .entry)))) first later (now (rows .entry)) (r .number) (r .meters) (now (rows .exit)) ⌝ }
 {
     let mpan = call[1];
-    if call[0] == REGISTER {
+    if call[0] == KIND_REGISTER {
         let stored = register_apart(first, later, rows, mpan, registration_of(call));
         return RowAnswer {
             number: stored.number,
@@ -141,16 +141,16 @@ fn setting_call(settings: Settings, call: &[u64]) -> Answer
 {
     let kind = call[0];
     let first = call[1];
-    if kind == SHAPE {
+    if kind == KIND_SHAPE {
         return replace_shape(settings, first, call[2]);
     }
-    if kind == WEIGHT {
+    if kind == KIND_WEIGHT {
         return replace_weight(settings, first, call[2]);
     }
-    if kind == TOLERANCE {
+    if kind == KIND_TOLERANCE {
         return replace_tolerance(settings, first);
     }
-    if kind == TAKE {
+    if kind == KIND_TAKE {
         return replace_take(settings, signed_of(first));
     }
     Answer {
@@ -177,7 +177,7 @@ fn make_each(settings: Settings, rows: &mut [u64], calls: &[u64], numbers: &mut 
     while i < count {
         let at = CALL_WORDS * i;
         let kind = calls[at];
-        if (kind == REGISTER) | (kind == READING) {
+        if (kind == KIND_REGISTER) | (kind == KIND_READING) {
             first = with_room(rows, first, made.meters);
             let later = made.meters - first;
             let stored = row_call(first, later, near, rows, &calls[at..]);
