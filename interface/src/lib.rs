@@ -1,12 +1,13 @@
-//! The proved library as C sees it: the one place where its interface is declared.
+//! The proved library as C sees it: the one place where its interface is declared for Rust.
 //!
-//! Nothing holds these declarations to the Rattle source (`crates/settlement/src/exports.rt`), so they stand once, and every
-//! program that links the library takes them from here.
+//! `.ci/interface` compares these declarations with the Rattle source and with the header for C: names, sizes, places, values,
+//! arguments and results. What a call does, and what each number stands for, is told in the header, `include/cepnhoy.h`.
 
-/// How many weights, load shapes and units there are; how many words a row and a call in a list take.
+/// How many weights, load shapes and units there are, and meters at most; how many words a row and a call in a list take.
 pub const CLASSES: usize = 24;
 pub const CATEGORIES: usize = 64;
 pub const UNITS: usize = 32;
+pub const METERS_MAX: usize = 65_536;
 pub const ROW_WORDS: usize = 3;
 pub const CALL_WORDS: usize = 10;
 
@@ -21,6 +22,53 @@ pub const KIND_SHAPE: u64 = 3;
 pub const KIND_WEIGHT: u64 = 4;
 pub const KIND_TOLERANCE: u64 = 5;
 pub const KIND_TAKE: u64 = 6;
+
+/// The number of acceptance, and those of the refusals.
+pub const ACCEPTED: u64 = 0;
+pub const BOOK_ILL_FORMED: u64 = 1;
+pub const ARGUMENT_OUT_OF_RANGE: u64 = 2;
+pub const QUALITY_REFUSED: u64 = 3;
+pub const METER_UNKNOWN: u64 = 4;
+pub const ISSUE_NOT_ABOVE: u64 = 5;
+pub const CAPACITY_REACHED: u64 = 6;
+pub const VOLUMES_SHORT: u64 = 7;
+pub const TAKE_UNSET: u64 = 8;
+pub const SHAPE_OF_DEFAULT_MISSING: u64 = 9;
+pub const WEIGHTED_BELOW_ONE: u64 = 10;
+pub const TOLERANCE_EXCEEDED: u64 = 11;
+pub const LIST_MISSHAPEN: u64 = 19;
+
+/// The ranges of a meter's MPAN and registration.
+pub const MPAN_MIN: u64 = 1_000_000_000_000;
+pub const MPAN_MAX: u64 = 9_999_999_999_999;
+pub const SEGMENT_MAX: u64 = 2;
+pub const DIRECTION_MAX: u64 = 1;
+pub const STATUS_MAX: u64 = 2;
+pub const UNIT_MAX: u64 = 31;
+pub const CATEGORY_MAX: u64 = 63;
+pub const LLF_MIN: u64 = 500;
+pub const LLF_MAX: u64 = 2_000;
+
+/// The ranges of a reading, some quality codes, and the word of a meter that has no reading.
+pub const ISSUE_MIN: u64 = 1;
+pub const ISSUE_MAX: u64 = 4_294_967_295;
+pub const QUALITY_MAX: u64 = 20;
+pub const CONSUMPTION_MAX: u64 = 10_000_000;
+pub const QUALITY_AAE3: u64 = 6;
+pub const QUALITY_E2: u64 = 9;
+pub const QUALITY_E6: u64 = 13;
+pub const QUALITY_E7: u64 = 14;
+pub const QUALITY_ZE: u64 = 17;
+pub const QUALITY_ZE3: u64 = 20;
+pub const NO_READING: u64 = 0;
+
+/// The ranges of the settings, and the number of a missing load shape.
+pub const WEIGHT_MAX: u64 = 1_000;
+pub const SHAPE_MAX: u64 = 10_000_000;
+pub const SHAPE_MISSING: u64 = 4_294_967_295;
+pub const TOLERANCE_MAX: u64 = 1_000;
+pub const TAKE_MIN: i64 = -5_000_000_000;
+pub const TAKE_MAX: i64 = 5_000_000_000;
 
 #[repr(C)]
 #[derive(Clone, Copy, Debug, PartialEq, Eq)]
@@ -98,52 +146,52 @@ extern "C" {
     fn cepnhoy_register(
         settings: Settings,
         rows: *mut u64,
-        row_words: usize,
+        rows_length: usize,
         mpan: u64,
         registration: Registration,
     ) -> Answer;
     fn cepnhoy_record_reading(
         settings: Settings,
         rows: *mut u64,
-        row_words: usize,
+        rows_length: usize,
         mpan: u64,
         reading: Reading,
     ) -> Answer;
-    fn cepnhoy_set_shape(settings: Settings, rows: *const u64, row_words: usize, category: u64, wh: u64) -> Answer;
+    fn cepnhoy_set_shape(settings: Settings, rows: *const u64, rows_length: usize, category: u64, wh: u64) -> Answer;
     fn cepnhoy_set_weight(
         settings: Settings,
         rows: *const u64,
-        row_words: usize,
+        rows_length: usize,
         class: u64,
         thousandths: u64,
     ) -> Answer;
-    fn cepnhoy_set_tolerance(settings: Settings, rows: *const u64, row_words: usize, g: u64) -> Answer;
-    fn cepnhoy_set_take(settings: Settings, rows: *const u64, row_words: usize, wh: i64) -> Answer;
+    fn cepnhoy_set_tolerance(settings: Settings, rows: *const u64, rows_length: usize, g: u64) -> Answer;
+    fn cepnhoy_set_take(settings: Settings, rows: *const u64, rows_length: usize, wh: i64) -> Answer;
     fn cepnhoy_allocate(
         settings: Settings,
         rows: *const u64,
-        row_words: usize,
+        rows_length: usize,
         volumes: *mut i64,
-        volume_words: usize,
+        volumes_length: usize,
     ) -> AllocationAnswer;
     fn cepnhoy_make_calls(
         settings: Settings,
         rows: *mut u64,
-        row_words: usize,
+        rows_length: usize,
         calls: *const u64,
-        call_words: usize,
+        calls_length: usize,
         numbers: *mut u64,
-        number_words: usize,
+        numbers_length: usize,
     ) -> Answer;
     fn cepnhoy_settle_list(
         rows: *mut u64,
-        row_words: usize,
+        rows_length: usize,
         calls: *const u64,
-        call_words: usize,
+        calls_length: usize,
         numbers: *mut u64,
-        number_words: usize,
+        numbers_length: usize,
         volumes: *mut i64,
-        volume_words: usize,
+        volumes_length: usize,
     ) -> AllocationAnswer;
 }
 
