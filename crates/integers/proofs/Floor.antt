@@ -94,13 +94,3 @@ module _ (x : ℤ) (d : ℕ) (p : 0 < d) where
       let f = floorOf x d *ℤ pos d in
       let n = (floorOf x d +ℤ pos 1) *ℤ pos d in
       omega (linear, whole x d p, fraction-below x d p, plus-times (floorOf x d) (pos 1) (pos d), plus f (pos (1 * d)), plus f (pos (fractionOf x d)), minus n x)
-
-  pub floor-low : (floorOf x d *ℤ pos d) ≤ℤ x
-  floor-low = omega (linear, above-floor, minus x (floorOf x d *ℤ pos d))
-
-  pub floor-high : x <ℤ ((floorOf x d +ℤ pos 1) *ℤ pos d)
-  floor-high = omega (linear, below-next, fraction-below x d p, minus ((floorOf x d +ℤ pos 1) *ℤ pos d) x)
-
-pub floor-mono : (x y : ℤ) (d : ℕ) → 0 < d → x ≤ℤ y → floorOf x d ≤ℤ floorOf y d
-floor-mono x y d p h =
-    le-of-lt-next (times-cancel-lt (floorOf x d) (floorOf y d +ℤ pos 1) (pos d) (omega linear) (omega (linear, floor-low x d p, floor-high y d p)))

@@ -1,25 +1,16 @@
 -- Rounding to the nearest Wh: by size under the sign, and never more than half a Wh away.
-use Prim.Native.Nat.{zero, suc, _*_, _≤_}
-use mathlib.Core.Path.{_≡_, refl, sym}
+use Prim.Native.Nat.{suc, _*_, _≤_}
+use mathlib.Core.Path.{_≡_, refl}
 use native.Mathlib.Omega.{arith}
-use lib.IntN.{ℤ, pos, negsuc, natAbs, negℤ, _-ℤ_, _*ℤ_, negℤ-negℤ}
+use lib.IntN.{ℤ, pos, negsuc, natAbs, negℤ, _-ℤ_, _*ℤ_}
 use Rattle.integers.specs.Rounding.{nearest, nearestWh}
 use Rattle.integers.proofs.Linear.{opposite, minus, times, size, one-side}
 use Rattle.integers.proofs.Size.{size-neg}
-
-pub nearest-neg : (x : ℤ) → nearestWh (negℤ x) ≡ negℤ (nearestWh x)
-unfolding nearestWh
-nearest-neg (pos zero) = refl
-nearest-neg (pos (suc n)) = refl
-nearest-neg (negsuc n) = sym (negℤ-negℤ _)
 
 pub nearest-size : (x : ℤ) → natAbs (nearestWh x) ≡ nearest (natAbs x)
 unfolding nearestWh
 nearest-size (pos n) = refl
 nearest-size (negsuc n) = size-neg (pos (nearest (suc n)))
-
-pub nearest-within : (x : ℤ) → natAbs (nearestWh x) ≤ natAbs x
-nearest-within x = omega (arith, nearest-size x)
 
 pub nearest-half : (x : ℤ) → natAbs (x -ℤ pos 1000 *ℤ nearestWh x) ≤ 500
 unfolding nearestWh

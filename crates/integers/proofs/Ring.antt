@@ -1,14 +1,8 @@
 -- Sums, differences and products of ℤ that `lib.IntN` does not have. What is linear, `omega (linear, ..)` proves where it is wanted.
-use Prim.Native.Nat.{ℕ, _-_, _*_, _≤_}
+use Prim.Native.Nat.{_-_, _*_}
 use mathlib.Core.Path.{_≡_, sym, ap, _∙_}
-use lib.IntN.{ℤ, pos, negℤ, _+ℤ_, _-ℤ_, _*ℤ_, *ℤ-comm}
+use lib.IntN.{ℤ, negℤ, _+ℤ_, _-ℤ_, _*ℤ_, *ℤ-comm}
 use Rattle.integers.proofs.Linear.{linear, above, below, opposite, plus, minus, times}
-
-pub times-one : (a : ℤ) → a *ℤ pos 1 ≡ a
-times-one a = omega (linear, times a (pos 1))
-
-pub pos-minus : (m n : ℕ) → n ≤ m → pos m -ℤ pos n ≡ pos (m - n)
-pos-minus m n h = omega (linear, minus (pos m) (pos n))
 
 module _ (a b : ℤ) where
   pub plus-rest : a +ℤ (b -ℤ a) ≡ b
@@ -24,9 +18,6 @@ module _ (a b : ℤ) where
   times-neg = omega (linear, opposite (a *ℤ b), times a b, rw (opposite b .0, opposite b .1) at (times a (negℤ b)))
 
 module _ (a b c : ℤ) where
-  pub plus-cancel : a +ℤ c ≡ b +ℤ c → a ≡ b
-  plus-cancel e = omega (linear, plus a c, plus b c)
-
   pub plus-left-comm : a +ℤ (b +ℤ c) ≡ b +ℤ (a +ℤ c)
   plus-left-comm = omega (linear, plus a (b +ℤ c), plus b c, plus b (a +ℤ c), plus a c)
 
@@ -44,9 +35,6 @@ module _ (a b c : ℤ) where
 
 pub times-exchange : (a b c : ℤ) → a *ℤ b *ℤ c ≡ a *ℤ c *ℤ b
 times-exchange a b c = times-assoc a b c ∙ ap (λ z. a *ℤ z) (*ℤ-comm b c) ∙ sym (times-assoc a c b)
-
-pub times-minus : (a b c : ℤ) → a *ℤ (b -ℤ c) ≡ a *ℤ b -ℤ a *ℤ c
-times-minus a b c = times-plus a b (negℤ c) ∙ ap (λ z. a *ℤ b +ℤ z) (times-neg a c)
 
 pub minus-times : (a b c : ℤ) → (a -ℤ b) *ℤ c ≡ a *ℤ c -ℤ b *ℤ c
 minus-times a b c = plus-times a (negℤ b) c ∙ ap (λ z. a *ℤ c +ℤ z) (neg-times b c)

@@ -10,9 +10,6 @@ use Rattle.integers.proofs.Linear.{linear, opposite, plus, size, one-si
 pub size-neg : (z : ℤ) → natAbs (negℤ z) ≡ natAbs z
 size-neg z = omega (arith, size z, size (negℤ z), opposite z)
 
-pub size-zero : (z : ℤ) → natAbs z ≡ 0 → z ≡ pos 0
-size-zero z e = omega (linear, size z)
-
 pub size-positive : (z : ℤ) → pos 0 <ℤ z → 0 < natAbs z
 size-positive z p = omega (linear, size z)
 
@@ -39,22 +36,7 @@ module _ (a b : ℤ) {A B : ℕ} (h : natAbs a ≤ A) (k : natAbs b ≤ B) where
   pub times-bound : natAbs (a *ℤ b) ≤ A * B
   times-bound = rw size-times (mul-le-mul h k)
 
--- within B, and strictly within B, as two orders
+-- within B, from two orders
 module _ {x : ℤ} {B : ℕ} where
   pub within : negℤ (pos B) ≤ℤ x → x ≤ℤ pos B → natAbs x ≤ B
   within h k = omega (linear, size x, one-side x, opposite (pos B))
-
-  pub within-high : natAbs x ≤ B → x ≤ℤ pos B
-  within-high h = omega (linear, size x)
-
-  pub within-low : natAbs x ≤ B → negℤ (pos B) ≤ℤ x
-  within-low h = omega (linear, size x, opposite (pos B))
-
-  pub inside : negℤ (pos B) <ℤ x → x <ℤ pos B → natAbs x < B
-  inside h k = omega (linear, size x, one-side x, opposite (pos B))
-
-  pub inside-high : natAbs x < B → x <ℤ pos B
-  inside-high h = omega (linear, size x)
-
-  pub inside-low : natAbs x < B → negℤ (pos B) <ℤ x
-  inside-low h = omega (linear, size x, opposite (pos B))

@@ -1,11 +1,10 @@
 -- The ways to a line: the first key that it starts with, or none; its length, and its place in the order.
 use Prim.Native.Nat.{ℕ, _<_, _≤_}
-use mathlib.Core.Path.{_≡_, refl, sym, _∙_, ap}
-use mathlib.Core.Bool.{Bool, true, false, cond}
+use mathlib.Core.Path.{_≡_, refl}
+use mathlib.Core.Bool.{Bool, true, false}
 use mathlib.Core.List.{List}
 use borrow.Author.Tests.{le-leb, lt-leb}
 use lib.ListN.{length, drop}
-use Rattle.period_file.specs.declared.Line.{Line}
 use Rattle.period_file.specs.declared.Line.the-variants.{OutOfForm}
 use Rattle.period_file.specs.Fields.{startsWith}
 use Rattle.period_file.specs.Lines.{takeKey, toleranceKey, weightKey, shapeKey, meterKey, readingKey, takeLine, toleranceLine, weightLine, shapeLine, meterLine, readingLine, inForm, keyedLine, lineMost, lineOf, kindOf, kindFollows, lineAfter}

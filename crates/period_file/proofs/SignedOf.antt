@@ -1,17 +1,15 @@
 -- The ways to a signed number: no byte, a minus first, or another byte first; and its value as the code makes it.
 use Prim.Native.Nat.{ℕ, zero, suc, _^_, _<_}
-use mathlib.Core.Path.{_≡_, refl, _∙_, ap}
+use mathlib.Core.Path.{_≡_, refl}
 use mathlib.Core.List.{List, [], _∷_}
 use native.Mathlib.Omega.{arith}
 use borrow.Author.Tests.{eq-eqb, ne-eqb}
-use lib.IntN.{ℤ, pos, negsuc, negℤ, _-ℤ_}
+use lib.IntN.{pos, negℤ, _-ℤ_}
 use lib.ListN.{length, getD, drop}
 use mir.Syntax.{w64}
 use mir.Val.{SFits, toZ, ofZ}
 use mir.ValLaws.{toZ-ofZ, toZ-pos}
 use Rattle.integers.proofs.Linear.{linear, minus}
-use Rattle.period_file.specs.declared.Number.{Number}
-use Rattle.period_file.specs.declared.Signed.{Signed}
 use Rattle.period_file.specs.Numbers.{minusByte, noNumber, numberOf, lessThanZero, notLessThanZero, signedOf}
 
 pub no-byte : (text : List ℕ) → length text ≡ 0 → notLessThanZero noNumber ≡ signedOf text

@@ -1,19 +1,15 @@
 -- The lines of a period file, the order of their kinds, and the call of each.
 use Prim.Native.Nat.{ℕ}
 use mathlib.Core.Path.{_≡_}
-use mathlib.Core.Bool.{Bool, true, false, _&&_, _||_, cond}
+use mathlib.Core.Bool.{Bool, _&&_, _||_, cond}
 use mathlib.Core.List.{List, [], _∷_}
 use lib.Dec.{leb, ltb, eqb}
 use lib.ListN.{length, drop}
 use Rattle.book.specs.Book.{Book}
 use Rattle.book.specs.Causes.{accepted}
 use Rattle.book.specs.Calls.{shape, weight, tolerance, groupTake, Call, register, reading, setting, Outcome, callOutcome}
-use Rattle.book.specs.declared.Answer.{Answer}
 use Rattle.book.specs.Contracts.{Gives}
 use Rattle.period_file.specs.declared.Taken.{Taken}
-use Rattle.period_file.specs.declared.Number.{Number}
-use Rattle.period_file.specs.declared.Signed.{Signed}
-use Rattle.period_file.specs.declared.Additional.{Additional}
 use Rattle.period_file.specs.declared.Line.{Line}
 use Rattle.period_file.specs.declared.Line.the-variants.{OutOfForm, Take, Tolerance, Weight, Shape, Meter, Reading}
 use Rattle.period_file.specs.Numbers.{signedOf, numberOf}

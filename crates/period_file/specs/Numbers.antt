@@ -3,7 +3,7 @@ use Prim.Native.Nat.{ℕ, _+_, _*_, _-_}
 use mathlib.Core.Bool.{Bool, true, false, not, _&&_, cond}
 use mathlib.Core.List.{List, [], _∷_}
 use lib.Dec.{leb, ltb, eqb}
-use lib.IntN.{ℤ, pos, negℤ}
+use lib.IntN.{pos, negℤ}
 use lib.ListN.{length, getD}
 use Rattle.period_file.specs.declared.Number.{Number}
 use Rattle.period_file.specs.declared.Signed.{Signed}

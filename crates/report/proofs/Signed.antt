@@ -1,6 +1,6 @@
 -- A number that may be below 0, by its sign and its size; w is the number as the code holds it.
 use Prim.Native.Nat.{ℕ}
-use mathlib.Core.Path.{_≡_, refl, ap}
+use mathlib.Core.Path.{_≡_}
 use mathlib.Core.Bool.{true, false}
 use mathlib.Core.List.{_∷_}
 use native.Mathlib.Omega.{arith}

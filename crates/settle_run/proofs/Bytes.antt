@@ -1,7 +1,6 @@
 -- The bytes of the input one by one, and chunks of it.
 use Prim.Native.Nat.{ℕ, suc, _+_, _*_, _-_, _≤_, _<_}
-use mathlib.Core.Path.{_≡_, refl, sym, _∙_, ap}
-use mathlib.Core.Bool.{true, false}
+use mathlib.Core.Path.{_≡_, refl}
 use mathlib.Core.List.{List, [], _∷_, _++_, append-assoc}
 use native.Mathlib.Numerals.{add-one}
 use native.Mathlib.Omega.{arith}
@@ -10,7 +9,7 @@ use lib.ListN.{length, getD, take, drop, set, drop-of-length-le}
 use lib.Seq.{length-take-le, take-suc-set, drop-cons}
 use Rattle.period_file.specs.Lines.{lineMost}
 use Rattle.settle_run.specs.declared.State.{State}
-use Rattle.settle_run.specs.Program.{Work, Step, quiet, outOfForm, after, endLine, gather, takeByte, takeBytes}
+use Rattle.settle_run.specs.Program.{Work, quiet, after, endLine, gather, takeByte, takeBytes}
 use Rattle.settle_run.specs.Contracts.{held, Took, Stopped}
 use Rattle.settle_run.proofs.Steps.{printed-nothing, quiet-step, larger, next}
 

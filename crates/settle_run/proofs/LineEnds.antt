@@ -1,12 +1,11 @@
 -- The end of a line: it is out of form, or its call is refused or accepted.
 use Prim.Native.Nat.{ℕ, _+_, _%_, _^_, _≤_}
 use mathlib.Core.Path.{_≡_, refl, sym, _∙_, ap}
-use mathlib.Core.List.{List, [], _∷_}
+use mathlib.Core.List.{List}
 use native.Mathlib.Omega.{arith}
 use borrow.Author.Tests.{eq-eqb, ne-eqb}
 use lib.ListN.{length, take}
 use Rattle.book.specs.Book.{Book}
-use Rattle.book.specs.Calls.{Outcome}
 use Rattle.book.specs.Contracts.{lent}
 use Rattle.period_file.specs.declared.Taken.{Taken}
 use Rattle.period_file.specs.declared.Line.{Line}
@@ -15,7 +14,7 @@ use Rattle.period_file.specs.Lines.{lineMost, kindOf, lineAfter, callsOf, calls
 use Rattle.report.specs.Lines.{refusedLine}
 use Rattle.report.specs.Appended.{Printed}
 use Rattle.settle_run.specs.declared.State.{State}
-use Rattle.settle_run.specs.Program.{Work, endLine}
+use Rattle.settle_run.specs.Program.{endLine}
 use Rattle.settle_run.specs.Contracts.{held, Took, Stopped}
 use Rattle.settle_run.proofs.Steps.{printed-nothing}
 

@@ -1,7 +1,7 @@
 -- Steps of the program: nothing printed, a larger bound, and one step after another.
 use Prim.Native.Nat.{ℕ, _+_, _-_, _≤_}
 use mathlib.Core.Path.{_≡_, refl}
-use mathlib.Core.List.{List, [], _∷_}
+use mathlib.Core.List.{List, []}
 use native.Mathlib.Omega.{arith}
 use lib.ListN.{length, take}
 use Rattle.period_file.specs.Lines.{lineMost}

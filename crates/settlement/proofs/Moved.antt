@@ -2,7 +2,7 @@
 use Prim.Native.Nat.{ℕ}
 use mathlib.Core.Path.{_≡_, refl, sym, _∙_, ap}
 use mathlib.Core.Bool.{true}
-use mathlib.Core.List.{List, [], _∷_, map, append-nil}
+use mathlib.Core.List.{List, [], map, append-nil}
 use Rattle.words.specs.declared.Reading.{Reading}
 use Rattle.book.specs.Calls.{Call, register, reading, setting}
 use Rattle.settlement.specs.Meaning.{gather, settingSet, mpanRegistered, meantMpans, registrationSet, meantRegistration, countedReadings, meantMeter, meantMeters, meantSettings}

@@ -35,10 +35,6 @@ module _ (r : Reading) (ok : readingInRange r ≡ true) where
   reading-round-trip =
       λ i. record { issue = reading-packed .issue i; quality = reading-packed .quality i; consumption = reading-packed .consumption i }
 
-  pub reading-word-fits : readingWord r < 2 ^ 64
-  unfolding readingWord
-  reading-word-fits = omega (arith, reading-bounds r ok)
-
   -- the issue number is at least 1, and stands from bit 32 on
   pub reading-word-least : 2 ^ 32 ≤ readingWord r
   unfolding readingWord

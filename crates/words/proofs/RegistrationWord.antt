@@ -29,10 +29,6 @@ module _ (r : Registration) (ok : registrationInRange r ≡ true) where
   unfolding registrationWord
   registration-packed = omega (arith, registration-bounds r ok)
 
-  pub unit-kept : unitOf (registrationWord r) ≡ cond (eqb (r .flag) 1) (r .additional) (r .base)
-  unfolding unitOf
-  unit-kept = rw (registration-packed .flag, registration-packed .additional, registration-packed .base)
-
   pub registration-round-trip : registrationOf (registrationWord r) ≡ r
   unfolding registrationOf
   registration-round-trip =

@@ -1,6 +1,6 @@
 -- `order_keys` meets its contract. The loop's invariant: the keys of the units passed are filled in.
 use Prim.Native.Nat.{ℕ, _+_, _-_, _≤_, _<_}
-use mathlib.Core.Path.{_≡_, ap, _∙_}
+use mathlib.Core.Path.{_≡_, _∙_}
 use mathlib.Core.List.{List}
 use native.Mathlib.Omega.{arith}
 use borrow.Author.Tests.{eqb-true, eqb-false}

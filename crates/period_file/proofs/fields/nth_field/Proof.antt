@@ -3,8 +3,7 @@ use Prim.Native.Nat.{_≤_, _-_}
 use mathlib.Core.Path.{_≡_, _∙_}
 use native.Mathlib.Omega.{arith}
 use borrow.Author.Needs.{needs}
-use lib.ListN.{length, drop}
-use Rattle.period_file.specs.Fields.{field}
+use lib.ListN.{length}
 use Rattle.period_file.proofs.FieldsOf.{FieldLeft, no-field-passed, field-passed, field-found, end-within, field-part}
 use Rattle.period_file.proofs.fields.nth_field.Statement.{statement}
 use Rattle.period_file.proofs.fields.nth_field.Tie as tie

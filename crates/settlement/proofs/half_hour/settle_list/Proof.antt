@@ -1,8 +1,5 @@
 -- `settle_list` gives what its definition gives, and demand 3 of it: from what making the list gives, and then the allocation. Assumes nothing.
-use mathlib.Core.Path.{_≡_, subst}
-use mathlib.Core.List.{List}
-use Prim.Native.Nat.{ℕ}
-use lib.ListN.{length}
+use mathlib.Core.Path.{subst}
 use Rattle.book.specs.declared.Settings.{Settings}
 use Rattle.book.specs.Book.{freshBook}
 use Rattle.book.specs.Contracts.{lent}
