@@ -130,17 +130,6 @@ pub struct AllocationAnswer {
     pub settings: Settings,
 }
 
-// A record is as long as its fields together, so it has no padding: equal records are equal byte by byte.
-const _: () = {
-    const WORD: usize = 8;
-    assert!(size_of::<Settings>() == size_of::<usize>() + 4 * (CLASSES + CATEGORIES + 2) + WORD);
-    assert!(size_of::<Registration>() == 8 * WORD);
-    assert!(size_of::<Reading>() == 3 * WORD);
-    assert!(size_of::<Answer>() == WORD + size_of::<Settings>());
-    assert!(size_of::<Allocated>() == 7 * WORD);
-    assert!(size_of::<AllocationAnswer>() == size_of::<Allocated>() + size_of::<Settings>());
-};
-
 extern "C" {
     fn cepnhoy_fresh() -> Settings;
     fn cepnhoy_register(
