@@ -13,7 +13,7 @@ use checking::settle::drive::{check_settle, Runs};
 const USAGE: &str = "\
 checking: compares the proved library with a second method on random books
   --seed N       the seed of the run (default 20240401)
-  --books N      how many random books (default 80000)
+  --books N      how many random books (default 80000); with 0 only the program settle is run
   --only K       only the random book of this number, to look at a failure again
   --settle PATH  also run the program settle on random period files
   --files N      how many period files (default 1500)
@@ -46,6 +46,9 @@ impl Options {
                 "--quiet" => options.quiet = true,
                 _ => return Err(format!("{word} is unknown")),
             }
+        }
+        if options.books == 0 && options.settle.is_none() {
+            return Err("--books 0 goes with --settle: else nothing is checked".into());
         }
         Ok(options)
     }
@@ -93,6 +96,17 @@ fn check_only(options: &Options, index: u64) -> Result<(), Failure> {
 }
 
 fn check_all(options: &Options) -> Result<(), Failure> {
+    if options.books > 0 {
+        check_books(options)?;
+    }
+    let runs = run_settle(options)?;
+    if !options.quiet {
+        println!("\n{}", runs.as_ref().map_or(String::new(), Runs::table));
+    }
+    all_reached(runs.iter().flat_map(Runs::missing).collect())
+}
+
+fn check_books(options: &Options) -> Result<(), Failure> {
     let reach = &mut Reach::default();
     let figures = check_figures(reach)?;
     println!("document 01: {figures} figures agree");
@@ -100,21 +114,22 @@ fn check_all(options: &Options) -> Result<(), Failure> {
         check_book(options.seed, index, reach)?;
     }
     check_large_books(options.seed, reach)?;
-    let runs = run_settle(options)?;
-    let runs_table = runs.as_ref().map_or(String::new(), Runs::table);
     if !options.quiet {
-        println!("\n{}{runs_table}", reach.table());
+        println!("\n{}", reach.table());
     }
-    let mut missing = reach.missing();
-    missing.extend(runs.iter().flat_map(Runs::missing));
-    if !missing.is_empty() {
-        return Err(Failure(format!("never reached: {}", missing.join("; "))));
-    }
+    all_reached(reach.missing())?;
     println!(
         "checked {} books, {} calls on damaged books, all agree (seed {})",
         options.books, reach.damaged_calls, options.seed
     );
     Ok(())
+}
+
+fn all_reached(missing: Vec<String>) -> Result<(), Failure> {
+    match missing.is_empty() {
+        true => Ok(()),
+        false => Err(Failure(format!("never reached: {}", missing.join("; ")))),
+    }
 }
 
 fn run_settle(options: &Options) -> Result<Option<Runs>, Failure> {
