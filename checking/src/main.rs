@@ -134,7 +134,9 @@ fn all_reached(missing: Vec<String>) -> Result<(), Failure> {
 
 fn run_settle(options: &Options) -> Result<Option<Runs>, Failure> {
     let Some(program) = &options.settle else {
-        println!("settle is not driven: give its path with --settle");
+        if !options.quiet {
+            println!("settle is not driven: give its path with --settle");
+        }
         return Ok(None);
     };
     let runs = check_settle(program, options.seed, options.files)?;
