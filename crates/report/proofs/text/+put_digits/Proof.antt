@@ -24,103 +24,9 @@ abbrev put-digits-below : ℕ → In 1 put-digits-kinds.ps
 put-digits-below t =
     and 1 put-digits-kinds.ps (falls 1 put-digits-kinds.ps _<_ μ-put-digits t) put-digits.Pre
 
-put-digits-digit-byte-requires : (t : ℕ) → put-digits-lts.Need-digit-byte-requires (
-  digit-byte-reads.Asked,
-  digit-byte-reads.Learnt,
-  put-reads.Asked,
-  put-reads.Learnt,
-  put-digits-below t,
-  put-digits.Post,
-) (put-digits-at t) put-digits.Post
-put-digits-digit-byte-requires t c κs = omega arith
-
-put-digits-put-requires : (t : ℕ) → put-digits-lts.Need-put-requires (
-  digit-byte-reads.Asked,
-  digit-byte-reads.Learnt,
-  put-reads.Asked,
-  put-reads.Learnt,
-  put-digits-below t,
-  put-digits.Post,
-) (put-digits-at t) put-digits.Post
-put-digits-put-requires t c κs = let s = c .before .before .before .before in omega (arith, s .pre .1, one-long (s .args .n) (search needs))
-
-put-digits-same-length : (t : ℕ) → put-digits-lts.Need-same-length (
-  digit-byte-reads.Asked,
-  digit-byte-reads.Learnt,
-  put-reads.Asked,
-  put-reads.Learnt,
-  put-digits-below t,
-  put-digits.Post,
-) (put-digits-at t) put-digits.Post
-put-digits-same-length t c = search needs
-
-put-digits-returns : (t : ℕ) → put-digits-lts.Need-returns (
-  digit-byte-reads.Asked,
-  digit-byte-reads.Learnt,
-  put-reads.Asked,
-  put-reads.Learnt,
-  put-digits-below t,
-  put-digits.Post,
-) (put-digits-at t) put-digits.Post
-put-digits-returns t c = one-written _ (search needs) (c .before .before .before .digit-byte .ensures) (c .before .before .put .ensures)
-
-put-digits-put-digits-requires : (t : ℕ) → put-digits-lts.Need-put-digits-requires (
-  digit-byte-reads.Asked,
-  digit-byte-reads.Learnt,
-  put-reads.Asked,
-  put-reads.Learnt,
-  put-digits-below t,
-  put-digits.Post,
-) (put-digits-at t) put-digits.Post
-put-digits-put-digits-requires t c κs = let s = c .before .before .before in (omega (arith, s .pre .0), omega (arith, s .pre .1, one-longer (s .args .n) (s .fits .n .fits) (search needs)))
-
-put-digits-digit-byte-requires-2 : (t : ℕ) → put-digits-lts.Need-digit-byte-requires-2 (
-  digit-byte-reads.Asked,
-  digit-byte-reads.Learnt,
-  put-reads.Asked,
-  put-reads.Learnt,
-  put-digits-below t,
-  put-digits.Post,
-) (put-digits-at t) put-digits.Post
-put-digits-digit-byte-requires-2 t c κs = omega arith
-
-put-digits-put-requires-2 : (t : ℕ) → put-digits-lts.Need-put-requires-2 (
-  digit-byte-reads.Asked,
-  digit-byte-reads.Learnt,
-  put-reads.Asked,
-  put-reads.Learnt,
-  put-digits-below t,
-  put-digits.Post,
-) (put-digits-at t) put-digits.Post
-put-digits-put-requires-2 t c κs =
-    let s = c .before .before .before .before .before .before .before .before in
-    let written = c .before .before .before .before .put-digits in
-    omega (arith, s .pre .1, one-longer (s .args .n) (s .fits .n .fits) (search needs), written .ensures .count, written .kept .0)
-
-put-digits-same-length-2 : (t : ℕ) → put-digits-lts.Need-same-length-2 (
-  digit-byte-reads.Asked,
-  digit-byte-reads.Learnt,
-  put-reads.Asked,
-  put-reads.Learnt,
-  put-digits-below t,
-  put-digits.Post,
-) (put-digits-at t) put-digits.Post
-put-digits-same-length-2 t c = search needs
-
-put-digits-returns-2 : (t : ℕ) → put-digits-lts.Need-returns-2 (
-  digit-byte-reads.Asked,
-  digit-byte-reads.Learnt,
-  put-reads.Asked,
-  put-reads.Learnt,
-  put-digits-below t,
-  put-digits.Post,
-) (put-digits-at t) put-digits.Post
-put-digits-returns-2 t c =
-    let s = c .before .before .before .before .before .before .before .before .before .before .before in
-    last-written _ (s .fits .n .fits) (search needs) (c .before .before .before .digit-byte2 .ensures) (c .before .before .before .before .before .before .before .put-digits .ensures) (c .before .before .put2 .ensures)
-
-pub +put-digits-spec : {M : Type 1} → statement M
-+put-digits-spec = close μ-put-digits λ t. put-digits-lts.spec (
+-- what the calls ask and tell, where n is t
+abbrev claims : ℕ → put-digits-lts.Claims
+claims t = (
   digit-byte-reads.Asked,
   digit-byte-reads.Learnt,
   put-reads.Asked,
@@ -128,6 +34,41 @@ pub +put-digits-spec : {M : Type 1} → statement M
   put-digits-below t,
   put-digits.Post,
 )
+
+put-digits-digit-byte-requires : (t : ℕ) → put-digits-lts.Need-digit-byte-requires (claims t) (put-digits-at t) put-digits.Post
+put-digits-digit-byte-requires t c κs = omega arith
+
+put-digits-put-requires : (t : ℕ) → put-digits-lts.Need-put-requires (claims t) (put-digits-at t) put-digits.Post
+put-digits-put-requires t c κs = let s = c .before .before .before .before in omega (arith, s .pre .1, one-long (s .args .n) (search needs))
+
+put-digits-same-length : (t : ℕ) → put-digits-lts.Need-same-length (claims t) (put-digits-at t) put-digits.Post
+put-digits-same-length t c = search needs
+
+put-digits-returns : (t : ℕ) → put-digits-lts.Need-returns (claims t) (put-digits-at t) put-digits.Post
+put-digits-returns t c = one-written _ (search needs) (c .before .before .before .digit-byte .ensures) (c .before .before .put .ensures)
+
+put-digits-put-digits-requires : (t : ℕ) → put-digits-lts.Need-put-digits-requires (claims t) (put-digits-at t) put-digits.Post
+put-digits-put-digits-requires t c κs = let s = c .before .before .before in (omega (arith, s .pre .0), omega (arith, s .pre .1, one-longer (s .args .n) (s .fits .n .fits) (search needs)))
+
+put-digits-digit-byte-requires-2 : (t : ℕ) → put-digits-lts.Need-digit-byte-requires-2 (claims t) (put-digits-at t) put-digits.Post
+put-digits-digit-byte-requires-2 t c κs = omega arith
+
+put-digits-put-requires-2 : (t : ℕ) → put-digits-lts.Need-put-requires-2 (claims t) (put-digits-at t) put-digits.Post
+put-digits-put-requires-2 t c κs =
+    let s = c .before .before .before .before .before .before .before .before in
+    let written = c .before .before .before .before .put-digits in
+    omega (arith, s .pre .1, one-longer (s .args .n) (s .fits .n .fits) (search needs), written .ensures .count, written .kept .0)
+
+put-digits-same-length-2 : (t : ℕ) → put-digits-lts.Need-same-length-2 (claims t) (put-digits-at t) put-digits.Post
+put-digits-same-length-2 t c = search needs
+
+put-digits-returns-2 : (t : ℕ) → put-digits-lts.Need-returns-2 (claims t) (put-digits-at t) put-digits.Post
+put-digits-returns-2 t c =
+    let s = c .before .before .before .before .before .before .before .before .before .before .before in
+    last-written _ (s .fits .n .fits) (search needs) (c .before .before .before .digit-byte2 .ensures) (c .before .before .before .before .before .before .before .put-digits .ensures) (c .before .before .put2 .ensures)
+
+pub +put-digits-spec : {M : Type 1} → statement M
++put-digits-spec = close μ-put-digits λ t. put-digits-lts.spec (claims t)
     (put-digits-at t)
     put-digits.Post
     (put-digits-digit-byte-requires t)
