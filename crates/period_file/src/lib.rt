@@ -26,6 +26,12 @@ pub struct Additional {
     pub unit: u64,
 }
 
+// The key of a line, by the number of its kind (0 for none), and where its value begins.
+pub struct Found {
+    pub kind: u64,
+    pub at: usize,
+}
+
 // A line of a period file.
 pub enum Line {
     OutOfForm,

@@ -1,4 +1,5 @@
 // The six kinds of line, and the order in which they may stand.
+use crate::Found;
 use crate::Line;
 use crate::fields::additional_at;
 use crate::fields::field_count;
@@ -8,6 +9,7 @@ use crate::numbers::number;
 use crate::numbers::signed;
 use words::Registration;
 ghost use mathlib.Core.Path.{_≡_};
+ghost use Rattle.period_file.specs.Keys.{keyOr, Means};
 ghost use Rattle.period_file.specs.Lines.{inForm, takeLine, toleranceLine, weightLine, shapeLine, meterLine, readingLine, keyedLine, lineOf, kindOf, kindFollows, lineAfter};
 
 // The bytes of a line, at most, without its line feed.
@@ -126,29 +128,47 @@ fn reading_line(value: &[u8]) -> Line
     )
 }
 
+// A key and where its value begins, if the line starts with it; else what was found among the keys after it.
+fn key_or(line: &[u8], key: &[u8], kind: u64, other: Found) -> Found
+    ensures { λ r. ⌜ r ≡ keyOr (now (line .entry)) (now (key .entry)) kind other ⌝ }
+{
+    if starts_with(line, key) {
+        let at = key.len();
+        return Found { kind, at };
+    }
+    other
+}
+
+// The first key that the line starts with. The keys are numbered as the kinds of lines are, and tried from the last.
+fn find_key(line: &[u8]) -> Found
+    ensures { λ r. ⌜ Means (now (line .entry)) r (keyedLine (now (line .entry))) ⌝ }
+{
+    let none = Found { kind: 0, at: 0 };
+    let reading = key_or(line, b"reading=", 6, none);
+    let meter = key_or(line, b"meter=", 5, reading);
+    let shape = key_or(line, b"shape=", 4, meter);
+    let weight = key_or(line, b"weight=", 3, shape);
+    let tolerance = key_or(line, b"tolerance=", 2, weight);
+    key_or(line, b"take=", 1, tolerance)
+}
+
 // The line of the key that the bytes start with.
 fn keyed_line(line: &[u8]) -> Line
     ensures { λ r. ⌜ r ≡ keyedLine (now (line .entry)) ⌝ }
 {
-    if starts_with(line, b"take=") {
-        return take_line(&line[5..]);
+    let found = find_key(line);
+    let at = found.at;
+    let value = &line[at..];
+    let kind = found.kind;
+    match kind {
+        1 => take_line(value),
+        2 => tolerance_line(value),
+        3 => weight_line(value),
+        4 => shape_line(value),
+        5 => meter_line(value),
+        6 => reading_line(value),
+        _ => Line::OutOfForm,
     }
-    if starts_with(line, b"tolerance=") {
-        return tolerance_line(&line[10..]);
-    }
-    if starts_with(line, b"weight=") {
-        return weight_line(&line[7..]);
-    }
-    if starts_with(line, b"shape=") {
-        return shape_line(&line[6..]);
-    }
-    if starts_with(line, b"meter=") {
-        return meter_line(&line[6..]);
-    }
-    if starts_with(line, b"reading=") {
-        return reading_line(&line[8..]);
-    }
-    Line::OutOfForm
 }
 
 // The place of a line's kind in the order, from 1; 0 for a line out of form.
