@@ -7,22 +7,29 @@ use allocation::Allocated;
 use book::calls::ACCEPTED;
 use integers::magnitude;
 ghost use Prim.Native.Nat.{_+_, _*_, _≤_};
+ghost use mathlib.Core.List.{_++_};
 ghost use lib.ListN.{length};
+ghost use Rattle.report.specs.Numbers.{decimal};
 ghost use Rattle.report.specs.Lines.{valueLine, signedLine, refusedLine, badLine, countLines, figureLines, volumeLine, volumeLines, allocationText};
 ghost use Rattle.report.specs.Appended.{Printed};
 
-const COMMA: u8 = b',';
-
 const LINE_FEED: u8 = b'\n';
 
-// A key with a number, and with one that may be below 0.
+// A key with a number, and the line of one; then the line of a key with a number that may be below 0.
+
+fn put_keyed(out: &mut [u8], used: usize, key: &[u8], n: u64) -> usize
+    requires { ⌜ used + (length (now key) + 20) ≤ length (now out) ⌝ }
+    ensures { λ r. ⌜ Printed (length (now (key .entry)) + 20) (now (out .entry)) used (now (key .entry) ++ decimal n) (now (out .exit)) r ⌝ }
+{
+    let keyed = put_all(out, used, key);
+    put_number(out, keyed, n)
+}
 
 fn put_value(out: &mut [u8], used: usize, key: &[u8], n: u64) -> usize
     requires { ⌜ used + (length (now key) + 21) ≤ length (now out) ⌝ }
     ensures { λ r. ⌜ Printed (length (now (key .entry)) + 21) (now (out .entry)) used (valueLine (now (key .entry)) n) (now (out .exit)) r ⌝ }
 {
-    let keyed = put_all(out, used, key);
-    let value = put_number(out, keyed, n);
+    let value = put_keyed(out, used, key, n);
     put(out, value, LINE_FEED)
 }
 
@@ -40,11 +47,8 @@ pub fn put_refused(out: &mut [u8], used: usize, line: u64, number: u64) -> usize
     requires { ⌜ used + 50 ≤ length (now out) ⌝ }
     ensures { λ r. ⌜ Printed 50 (now (out .entry)) used (refusedLine line number) (now (out .exit)) r ⌝ }
 {
-    let keyed = put_all(out, used, b"refused=");
-    let first = put_number(out, keyed, line);
-    let comma = put(out, first, COMMA);
-    let second = put_number(out, comma, number);
-    put(out, second, LINE_FEED)
+    let first = put_keyed(out, used, b"refused=", line);
+    put_value(out, first, b",", number)
 }
 
 // `line=number`
@@ -63,11 +67,8 @@ fn put_volume(out: &mut [u8], used: usize, unit: u64, wh: i64) -> usize
     if magnitude(wh) == 0 {
         return used;
     }
-    let keyed = put_all(out, used, b"volume=");
-    let first = put_number(out, keyed, unit);
-    let comma = put(out, first, COMMA);
-    let second = put_signed(out, comma, wh);
-    put(out, second, LINE_FEED)
+    let first = put_keyed(out, used, b"volume=", unit);
+    put_signed_value(out, first, b",", wh)
 }
 
 fn put_volumes(out: &mut [u8], used: usize, volumes: &[i64]) -> usize
