@@ -6,7 +6,7 @@ use crate::numbers::number;
 ghost use mathlib.Core.Path.{_≡_};
 ghost use Prim.Native.Nat.{_+_, _≤_};
 ghost use lib.ListN.{length, drop};
-ghost use Rattle.period_file.specs.Fields.{startsWith, fieldCount, beforeComma, afterComma, field, NextField, numberAt, isMinus, additionalOf, additionalAt};
+ghost use Rattle.period_file.specs.Fields.{startsWith, fieldCount, beforeComma, field, NextField, numberAt, isMinus, additionalOf, additionalAt};
 
 const COMMA: u8 = b',';
 

@@ -10,7 +10,7 @@ use crate::numbers::signed;
 use words::Registration;
 ghost use mathlib.Core.Path.{_≡_};
 ghost use Rattle.period_file.specs.Keys.{keyOr, Means};
-ghost use Rattle.period_file.specs.Lines.{inForm, takeLine, toleranceLine, weightLine, shapeLine, meterLine, readingLine, keyedLine, lineOf, kindOf, kindFollows, lineAfter};
+ghost use Rattle.period_file.specs.Lines.{inForm, takeLine, toleranceLine, weightLine, shapeLine, meterLine, readingLine, keyedLine, kindOf, kindFollows, lineAfter};
 
 // The bytes of a line, at most, without its line feed.
 pub const LINE_MAX: usize = 80;

@@ -6,8 +6,21 @@ use native.Mathlib.Omega.{arith}
 use mathlib.Core.List.{List, [], _∷_, _++_}
 use Rattle.settle_run.specs.declared.State.{State}
 use Rattle.settle_run.specs.Program.{Work, Step, freshWork, takeBytes, takeRead, Attempt, gave, again, failed, takeAttempt, takeAttempts, attemptsText, given, allWentOn, ended, endText, settleText}
-use Rattle.settle_run.specs.Contracts.{held, Turned, Read}
+use Rattle.settle_run.specs.Contracts.{held, Between, Turned, Read}
+use Rattle.settle_run.proofs.Steps.{printed-nothing}
 use Rattle.settle_run.proofs.Bytes.{chunks}
+
+-- an attempt that gave nothing, after what waited was written
+pub nothing-read : (attempt : Attempt) {before s : State} {line rows out : List ℕ} → Between before line out
+    → held s line rows ≡ takeAttempt (held before line rows) attempt .work → takeAttempt (held before line rows) attempt .text ≡ []
+    → s .length ≡ before .length → s .used ≡ 0 → Turned before line rows out s line rows out
+nothing-read attempt {out = out} b work text same none =
+    record {
+      attempt = attempt;
+      work = work;
+      text = rw (text, none) (printed-nothing 51200 out 0 (omega arith));
+      between = record { line-long = b .line-long; line-short = omega (arith, b .line-short); out-long = b .out-long; waiting = omega arith };
+    }
 
 -- one more at the end
 pub one-more : (w : Work) (attempts : List Attempt) (last : Attempt)

@@ -10,7 +10,7 @@ use Rattle.book.specs.Contracts.{lent}
 use Rattle.period_file.specs.declared.Taken.{Taken}
 use Rattle.period_file.specs.declared.Line.{Line}
 use Rattle.period_file.specs.declared.Line.the-variants.{OutOfForm, Take, Tolerance, Weight, Shape, Meter, Reading}
-use Rattle.period_file.specs.Lines.{lineMost, kindOf, lineAfter, callsOf, callsOutcome, lineOutcome, LineTaken}
+use Rattle.period_file.specs.Lines.{lineMost, kindOf, callsOf, callsOutcome, lineOutcome, LineTaken}
 use Rattle.report.specs.Lines.{refusedLine}
 use Rattle.report.specs.Appended.{Printed}
 use Rattle.settle_run.specs.declared.State.{State}
@@ -31,9 +31,6 @@ no-call b (Reading mpan r) h = absurd (omega arith)
 
 module _ (s : State) (line rows : List ℕ) (short : s .length ≤ lineMost) (taken : Taken) (rowsAfter : List ℕ)
     (t : LineTaken (lent (s .settings) rows) (s .«last_kind») (take (s .length) line) taken rowsAfter) where
-  found : Line
-  found = lineAfter (s .«last_kind») (take (s .length) line)
-
   pub out-of-form : {out out₂ : List ℕ} {s₂ : State} → taken .kind ≡ 0 → Stopped s out s₂ out₂
       → Took (endLine (held s line rows)) 50 out (s .used) s₂ line rowsAfter out₂
   unfolding endLine

@@ -1,5 +1,5 @@
 -- `nth_field` passes the first n fields, and the field that starts there is the text up to its end.
-use Prim.Native.Nat.{_≤_, _-_}
+use Prim.Native.Nat.{_≤_}
 use mathlib.Core.Path.{_≡_, _∙_}
 use native.Mathlib.Omega.{arith}
 use borrow.Author.Needs.{needs}

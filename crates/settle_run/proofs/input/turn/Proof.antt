@@ -3,7 +3,7 @@ use mathlib.Core.Path.{refl}
 use native.Mathlib.Omega.{arith}
 use Rattle.report.proofs.Appending.{at-most}
 use Rattle.settle_run.specs.Program.{gave, again, failed, takeAttempt}
-use Rattle.settle_run.proofs.Steps.{printed-nothing}
+use Rattle.settle_run.proofs.Attempts.{nothing-read}
 use borrow.Author.Needs.{needs}
 use Rattle.settle_run.proofs.input.turn.Statement.{statement}
 use Rattle.settle_run.proofs.input.turn.Tie as tie
@@ -30,12 +30,7 @@ returns : tie.Need-returns
 unfolding takeAttempt
 returns c =
     let s = c .before .before .before .before .before .before .before .before .before .before .before .before in
-    record {
-      attempt = again;
-      work = refl;
-      text = printed-nothing 51200 _ 0 (omega arith);
-      between = record { line-long = s .pre .line-long; line-short = s .pre .line-short; out-long = s .pre .out-long; waiting = omega arith };
-    }
+    nothing-read again (s .pre) refl refl refl refl
 
 slice-aggregate-fail : tie.Need-slice-aggregate-fail
 slice-aggregate-fail c = search needs
@@ -50,12 +45,7 @@ returns-2 : tie.Need-returns-2
 unfolding takeAttempt
 returns-2 c =
     let s = c .before .before .before .before .before .before .before .before .before .before .before .before .before .before in
-    record {
-      attempt = failed;
-      work = refl;
-      text = printed-nothing 51200 _ 0 (omega arith);
-      between = record { line-long = s .pre .line-long; line-short = s .pre .line-short; out-long = s .pre .out-long; waiting = omega arith };
-    }
+    nothing-read failed (s .pre) refl refl refl refl
 
 slice-aggregate-count : tie.Need-slice-aggregate-count
 slice-aggregate-count c = search needs
