@@ -1,47 +1,49 @@
 -- The steps of an allocation of a well-formed book: what each needs, and what they come to together.
-use Prim.Native.Nat.{ℕ, zero, suc, _*_, _≤_, _<_}
+use Prim.Native.Nat.{ℕ, zero, suc, _≤_, _-_}
 use mathlib.Core.Path.{_≡_, refl, sym, _∙_, ap, subst, fun-ext}
-use mathlib.Core.Bool.{Bool, true, false}
+use mathlib.Core.Bool.{Bool, true, false, cond}
 use mathlib.Core.List.{List, [], _∷_, map, map-map}
 use native.Mathlib.Omega.{arith}
-use native.Mathlib.Nat.{mul-le-mul-right}
-use borrow.Author.Tests.{ltb-false, leb-true}
+use borrow.Author.Tests.{leb-true}
 use lib.Dec.{lit<}
-use lib.IntN.{ℤ, pos, natAbs, _-ℤ_}
+use lib.IntN.{ℤ, pos}
 use lib.ListN.{length, getD, length-map}
-use lib.Signed.{ltZ}
 use mir.Syntax.{w64}
 use mir.Val.{SFits}
-use Rattle.integers.specs.Sum.{sum}
+use Rattle.integers.specs.Rounding.{nearestWh}
 use Rattle.integers.proofs.Fit.{fit}
-use Rattle.integers.proofs.Order.{lt-false, lt-of-next}
 use Rattle.book.specs.declared.Settings.{Settings}
 use Rattle.book.specs.Limits.{classes, categories}
 use Rattle.book.specs.Settings.{isWeight}
 use Rattle.book.specs.Rows.{Row, capacity, rowsOf}
-use Rattle.book.specs.Book.{usedRows, wellFormed}
-use Rattle.book.specs.Contracts.{lent}
+use Rattle.book.specs.Book.{usedRows, wellFormed, lent}
 use Rattle.book.proofs.AllOf.{entry-passes}
 use Rattle.book.proofs.WellFormed.{room, formed-book, formed-settings}
-use Rattle.allocation.specs.Cells.{isLossClass, cell, countFrom, cellsOf}
-use Rattle.allocation.specs.declared.UnitSums.{UnitSums}
-use Rattle.allocation.specs.Correction.{units, netOf, weightedOf, netIn, weightedIn, unitSums, allUnitSums, unallocatedOf, weightedTotal}
-use Rattle.allocation.specs.Allocate.{exceedsTolerance}
-use Rattle.allocation.specs.Contracts.{rawCell, tableOf, emptyCell, wholeCell, roundedFrom, sumsOf, GatherArguments, UnitArguments, AllUnitsArguments, AllUnits, TotalArguments, ToleranceArguments, ApportionArguments, CorrectionOf}
-use Rattle.allocation.proofs.Entries.{entry-map, by-place}
-use Rattle.allocation.proofs.Counting.{counted-length, cells-length, cells-at, sums-length, sums-at}
-use Rattle.allocation.proofs.Tables.{table-row, table-sized}
-use Rattle.allocation.proofs.Bounds.{Limited, book-limited, cell-limited, unit-net-most, unit-weighted-most, weighted-total-most, unallocated-most}
-use Rattle.allocation.proofs.Apportioned.{noSums}
+use Rattle.cells.specs.Cells.{isLossClass, cell, countFrom, cellsOf, units, consumptionCell, lossCell}
+use Rattle.cells.specs.Helpers.{rawCell, tableOf, emptyCell, GatherArguments}
+use Rattle.cells.proofs.Entries.{by-place}
+use Rattle.cells.proofs.Counting.{counted-length, cells-length, cells-at}
+use Rattle.cells.proofs.Tables.{table-row, table-sized}
+use Rattle.cells.proofs.CellBounds.{raw-cell-is}
+use Rattle.correction.specs.declared.UnitSums.{UnitSums}
+use Rattle.correction.specs.Correction.{netOf, weightedOf, netIn, weightedIn}
+use Rattle.correction.specs.Outcome.{pairsOf}
+use Rattle.correction.specs.Helpers.{wholeCell, roundedFrom, sumsOf, UnitArguments, AllUnitsArguments, AllUnits, CorrectArguments, sizes}
+use Rattle.correction.proofs.Pairs.{pairs-of-sums}
+use Rattle.allocation.specs.Allocate.{unitSums, allUnitSums}
+use Rattle.allocation.proofs.Bounds.{Limited, book-limited, cell-limited}
+use Rattle.allocation.proofs.SumBounds.{nets-total, weighteds-total}
 
 -- a unit's raw cells rounded are its cells
 whole-raw : (shapes : List ℕ) (meters : List Row) (unit class : ℕ) → wholeCell class (rawCell shapes meters unit class) ≡ cell shapes meters unit class
-unfolding rawCell cell
-whole-raw shapes meters unit class = by (isLossClass class) refl
+unfolding cell
+whole-raw shapes meters unit class =
+    rw (raw-cell-is shapes meters unit class)
+    (by (isLossClass class) (lossCell shapes meters unit (class - 1)) (consumptionCell shapes meters unit class))
   where
-    by : (t : Bool) → isLossClass class ≡ t → wholeCell class (rawCell shapes meters unit class) ≡ cell shapes meters unit class
-    by true t = rw t
-    by false t = rw t
+    by : (t : Bool) (l c : ℤ) → cond t (nearestWh (cond t l c)) (cond t l c) ≡ cond t (nearestWh l) c
+    by true l c = refl
+    by false l c = refl
 
 rounded-counted : (f : ℕ → ℤ) (k n : ℕ) → roundedFrom k (map f (countFrom k n)) ≡ map (λ class. wholeCell class (f class)) (countFrom k n)
 unfolding roundedFrom countFrom
@@ -58,6 +60,10 @@ metersIn s words = rowsOf (s .meters) words
 
 abbrev pub sumsIn : Settings → List ℕ → List UnitSums
 sumsIn s words = allUnitSums s (metersIn s words)
+
+pub sums-length : (s : Settings) (meters : List Row) → length (allUnitSums s meters) ≡ units
+unfolding allUnitSums
+sums-length s meters = counted-length (unitSums s meters) units
 
 module _ (s : Settings) (words : List ℕ) (wf : wellFormed (lent s words) ≡ true) where
   limited : Limited s (metersIn s words)
@@ -85,7 +91,7 @@ module _ (s : Settings) (words : List ℕ) (wf : wellFormed (lent s words) ≡ t
         cells-long = counted-length (rawCell (s .shapes) meters unit) classes;
         weights-long = long;
         cells-bound = rw (rounded-cells (s .shapes) meters unit)
-            (by-place (cellsOf (s .shapes) meters unit) classes 655360000000 (cells-length (s .shapes) meters unit)
+            (by-place (cellsOf (s .shapes) meters unit) classes 1400000000000 (cells-length (s .shapes) meters unit)
             (λ k h. rw (cells-at (s .shapes) meters unit k (pos 0) h) (cell-limited s meters limited unit k)));
         weights-bound = λ k. leb-true _ 1000 (entry-passes isWeight (s .weights) k 0 (limited .weights) refl);
       }
@@ -107,102 +113,37 @@ module _ (s : Settings) (words : List ℕ) (wf : wellFormed (lent s words) ≡ t
   pub take-fits : SFits w64 (s .«take_wh»)
   take-fits = fit (s .«take_wh») 5000000000 (limited .take-wh) (lit< tt)
 
-  pub unallocated-fits : SFits w64 (unallocatedOf (s .«take_wh») (sumsIn s words))
-  unallocated-fits = fit (unallocatedOf (s .«take_wh») (sumsIn s words)) 1400000000000 (unallocated-most s (metersIn s words) limited) (lit< tt)
+-- n and a of the units, as the code has them
+units-from-table : (s : Settings) (meters : List Row) (read : UnitSums → ℤ) → map (λ cells. read (sumsOf cells (s .weights))) (tableOf (rawCell (s .shapes) meters)) ≡ map read (allUnitSums s meters)
+unfolding tableOf allUnitSums unitSums
+units-from-table s meters read =
+    map-map _ _ (countFrom 0 units)
+    ∙ ap (λ (f : ℕ → ℤ). map f (countFrom 0 units))
+    (fun-ext (λ (unit : ℕ). ap (λ (cells : List ℤ). read (record { net = netOf 0 cells; weighted = weightedOf cells (s .weights) })) (rounded-cells (s .shapes) meters unit)))
+    ∙ sym (map-map read (unitSums s meters) (countFrom 0 units))
 
-  pub tolerance-arguments : ToleranceArguments (s .tolerance) (unallocatedOf (s .«take_wh») (sumsIn s words)) (weightedTotal (sumsIn s words))
-  tolerance-arguments =
-      record { g-bound = limited .tolerance; u-bound = unallocated-most s (metersIn s words) limited; w-bound = weighted-total-most s (metersIn s words) limited }
+module _ (s : Settings) (words : List ℕ) (wf : wellFormed (lent s words) ≡ true) {table : List (List ℤ)} {nets weighted : List ℤ} (t : table ≡ tableOf (rawCell (s .shapes) (metersIn s words))) (given : AllUnits table (s .weights) nets weighted) where
+  nets-are : nets ≡ map netIn (sumsIn s words)
+  nets-are = given .nets-are ∙ ap (map (λ cells. netIn (sumsOf cells (s .weights)))) t ∙ units-from-table s (metersIn s words) netIn
 
-  -- n and a of the units, as the code has them
-  units-from-table : (read : UnitSums → ℤ) → map (λ cells. read (sumsOf cells (s .weights))) (tableOf (rawCell (s .shapes) (metersIn s words))) ≡ map read (sumsIn s words)
-  unfolding tableOf allUnitSums unitSums
-  units-from-table read =
-      map-map _ _ (countFrom 0 units)
-      ∙ ap (λ (f : ℕ → ℤ). map f (countFrom 0 units))
-      (fun-ext (λ (unit : ℕ). ap (λ (cells : List ℤ). read (record { net = netOf 0 cells; weighted = weightedOf cells (s .weights) })) (rounded-cells (s .shapes) (metersIn s words) unit)))
-      ∙ sym (map-map read (unitSums s (metersIn s words)) (countFrom 0 units))
+  weighted-are : weighted ≡ map weightedIn (sumsIn s words)
+  weighted-are = given .weighted-are ∙ ap (map (λ cells. weightedIn (sumsOf cells (s .weights)))) t ∙ units-from-table s (metersIn s words) weightedIn
 
--- where n and a of the units have been worked
-pub record Worked (s : Settings) (words : List ℕ) (nets weighted : List ℤ) : Type 0 where
-  pub formed : wellFormed (lent s words) ≡ true
-  pub nets-are : nets ≡ map netIn (sumsIn s words)
-  pub weighted-are : weighted ≡ map weightedIn (sumsIn s words)
+  pub sums-worked : pairsOf nets weighted ≡ sumsIn s words
+  sums-worked = rw (nets-are, weighted-are) (pairs-of-sums (sumsIn s words))
 
-pub units-worked : (s : Settings) (words : List ℕ) {table : List (List ℤ)} {nets weighted : List ℤ} → wellFormed (lent s words) ≡ true
-    → table ≡ tableOf (rawCell (s .shapes) (metersIn s words)) → AllUnits table (s .weights) nets weighted → Worked s words nets weighted
-units-worked s words wf t given =
-    record {
-      formed = wf;
-      nets-are = given .nets-are ∙ ap (map (λ cells. netIn (sumsOf cells (s .weights)))) t ∙ units-from-table s words wf netIn;
-      weighted-are = given .weighted-are ∙ ap (map (λ cells. weightedIn (sumsOf cells (s .weights)))) t ∙ units-from-table s words wf weightedIn;
-    }
-
-pub figures-worked : {s : Settings} {words : List ℕ} {takeWh : ℤ} {tolerance : ℕ} {nets weighted : List ℤ} {counts : List ℕ} {volumes : List ℤ}
-    → CorrectionOf s words takeWh tolerance nets weighted counts volumes → Worked s words nets weighted
-figures-worked k = record { formed = k .formed; nets-are = k .nets-are; weighted-are = k .weighted-are }
-
-module _ {s : Settings} {words : List ℕ} {nets weighted : List ℤ} (k : Worked s words nets weighted) where
-  -- n, or a, of each unit: as many as there are units, and bounded as each is
   long : (read : UnitSums → ℤ) {xs : List ℤ} → xs ≡ map read (sumsIn s words) → length xs ≡ units
   long read e = ap length e ∙ length-map (sumsIn s words) read ∙ sums-length s (metersIn s words)
 
-  bounded : (read : UnitSums → ℤ) (most : ℕ) {xs : List ℤ} → xs ≡ map read (sumsIn s words) → ((unit : ℕ) → natAbs (read (unitSums s (metersIn s words) unit)) ≤ most)
-      → (i : ℕ) → natAbs (getD xs i (pos 0)) ≤ most
-  bounded read most {xs} e each =
-      by-place xs units most (long read e)
-      (λ i h.
-      let there : i < length (sumsIn s words) = omega (arith, sums-length s (metersIn s words)) in
-      rw (e, entry-map read (sumsIn s words) i noSums (pos 0) there, sums-at s (metersIn s words) i noSums h) (each i))
-
-  nets-long : length nets ≡ units
-  nets-long = long netIn (k .nets-are)
-
-  weighted-long : length weighted ≡ units
-  weighted-long = long weightedIn (k .weighted-are)
-
-  nets-bound : (i : ℕ) → natAbs (getD nets i (pos 0)) ≤ 1400000000000
-  nets-bound = bounded netIn 1400000000000 (k .nets-are) (unit-net-most s (metersIn s words) (limited s words (k .formed)))
-
-  weighted-bound : (i : ℕ) → natAbs (getD weighted i (pos 0)) ≤ 1400000000000000
-  weighted-bound = bounded weightedIn 1400000000000000 (k .weighted-are) (unit-weighted-most s (metersIn s words) (limited s words (k .formed)))
-
-  pub nets-arguments : TotalArguments nets
-  nets-arguments = record { few = omega (arith, nets-long); each-bound = λ i. omega (arith, nets-bound i) }
-
-  pub weighted-arguments : TotalArguments weighted
-  weighted-arguments = record { few = omega (arith, weighted-long); each-bound = λ i. omega (arith, weighted-bound i) }
-
-  pub unallocated-is : s .«take_wh» -ℤ sum nets ≡ unallocatedOf (s .«take_wh») (sumsIn s words)
-  unfolding unallocatedOf
-  unallocated-is = ap (λ (xs : List ℤ). s .«take_wh» -ℤ sum xs) (k .nets-are)
-
-  pub weighted-is : sum weighted ≡ weightedTotal (sumsIn s words)
-  unfolding weightedTotal
-  weighted-is = ap sum (k .weighted-are)
-
-  pub apportion-arguments : {part : List ℤ} → ltZ (weightedTotal (sumsIn s words)) (pos 1) ≡ false
-      → exceedsTolerance (s .tolerance) (unallocatedOf (s .«take_wh») (sumsIn s words)) (weightedTotal (sumsIn s words)) ≡ false → length part ≡ units
-      → ApportionArguments (s .«take_wh») (unallocatedOf (s .«take_wh») (sumsIn s words)) (weightedTotal (sumsIn s words)) nets weighted part
-  unfolding exceedsTolerance
-  apportion-arguments above within long-part =
-      let asked = tolerance-arguments s words (k .formed) in
-      let w = weightedTotal (sumsIn s words) in
-      let kept : natAbs (unallocatedOf (s .«take_wh») (sumsIn s words)) * 1000000 ≤ s .tolerance * natAbs w = ltb-false _ _ within in
-      let most : s .tolerance * natAbs w ≤ 1000 * natAbs w = mul-le-mul-right (natAbs w) (asked .g-bound) in
+  pub correct-arguments : {slice : List ℤ} → units ≤ length slice → CorrectArguments (s .«take_wh») (s .tolerance) nets weighted slice
+  correct-arguments long-slice =
+      let l = limited s words wf in
       record {
-        sums = sumsIn s words;
-        sums-long = sums-length s (metersIn s words);
-        nets-are = k .nets-are;
-        weighted-are = k .weighted-are;
-        u-is = refl;
-        w-is = refl;
-        take-bound = limited s words (k .formed) .take-wh;
-        u-bound = asked .u-bound;
-        w-bound = asked .w-bound;
-        w-positive = lt-of-next (lt-false w (pos 1) above);
-        within-tolerance = omega arith;
-        nets-bound = nets-bound;
-        weighted-bound = weighted-bound;
-        volumes-long = long-part;
+        nets-long = long netIn nets-are;
+        weighted-long = long weightedIn weighted-are;
+        volumes-long = long-slice;
+        take-bound = l .take-wh;
+        tolerance-bound = l .tolerance;
+        nets-bound = omega (arith, ap sizes nets-are, nets-total s (l .rows) (l .few));
+        weighted-bound = omega (arith, ap sizes weighted-are, weighteds-total s (l .rows) (l .few) (l .weights));
       }

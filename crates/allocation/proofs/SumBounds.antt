@@ -1,45 +1,24 @@
 -- How large n, a, U and W can be, from all cells together.
-use Prim.Native.Nat.{ℕ, suc, _+_, _*_, _≤_}
+use Prim.Native.Nat.{ℕ, _+_, _*_, _≤_}
 use mathlib.Core.Path.{_≡_, ap}
-use mathlib.Core.Bool.{true, and-eq-true-iff}
-use mathlib.Core.List.{List, [], _∷_, map, map-map}
+use mathlib.Core.Bool.{true}
+use mathlib.Core.List.{List, map, map-map}
 use native.Mathlib.Omega.{arith}
-use native.Mathlib.Nat.{mul-le-mul-left}
 use lib.ListN.{length}
-use lib.IntN.{ℤ, pos, natAbs, _*ℤ_}
-use borrow.Author.Tests.{leb-true}
-use Rattle.integers.proofs.Size.{size-plus, size-times}
-use Rattle.book.specs.Limits.{classes}
+use lib.IntN.{ℤ, natAbs}
 use Rattle.book.specs.declared.Settings.{Settings}
+use Rattle.book.specs.Limits.{classes}
 use Rattle.book.specs.Settings.{isWeight, allOf}
 use Rattle.book.specs.Rows.{Row}
-use Rattle.allocation.specs.Cells.{cell, countFrom, cellsOf}
-use Rattle.allocation.specs.Correction.{units, byDirection, netOf, weightedOf, unitSums, allUnitSums, netIn, weightedIn}
-use Rattle.allocation.proofs.Each.{Each}
-use Rattle.allocation.proofs.RunningSums.{direction-size}
-use Rattle.allocation.proofs.RowBounds.{RowBounds}
-use Rattle.allocation.proofs.Totals.{total, total-plus, total-mono, total-one, total-const, total-times, sizes, sizes-total}
-use Rattle.allocation.proofs.CellBounds.{thousandths, cell-thousandths, thousandths-total}
-
--- n and a of a unit, from the sizes of its cells
-pub net-most : (class : ℕ) (cells : List ℤ) → natAbs (netOf class cells) ≤ sizes cells
-unfolding netOf sizes
-net-most class [] = omega arith
-net-most class (c ∷ cells) = omega (arith, size-plus (byDirection class c) (netOf (suc class) cells), direction-size class c, net-most (suc class) cells)
-
-pub weighted-most : (cells : List ℤ) (weights : List ℕ) → allOf isWeight weights ≡ true → natAbs (weightedOf cells weights) ≤ 1000 * sizes cells
-unfolding weightedOf sizes allOf
-weighted-most [] weights h = omega arith
-weighted-most (c ∷ cells) [] h = omega arith
-weighted-most (c ∷ cells) (w ∷ weights) h =
-    let parts = and-eq-true-iff (isWeight w) (allOf isWeight weights) .0 h in
-    omega (
-      arith,
-      size-plus (c *ℤ pos w) (weightedOf cells weights),
-      size-times c (pos w),
-      mul-le-mul-left (natAbs c) (leb-true w 1000 (parts .0)),
-      weighted-most cells weights (parts .1),
-    )
+use Rattle.cells.specs.Cells.{cell, countFrom, cellsOf, units}
+use Rattle.cells.proofs.Each.{Each}
+use Rattle.cells.proofs.RowBounds.{RowBounds}
+use Rattle.cells.proofs.Totals.{total, total-plus, total-mono, total-const, total-times}
+use Rattle.cells.proofs.CellBounds.{thousandths, cell-thousandths, thousandths-total}
+use Rattle.correction.specs.Correction.{netOf, weightedOf, netIn, weightedIn}
+use Rattle.correction.specs.Helpers.{sizes}
+use Rattle.correction.proofs.Sizes.{net-most, sizes-total, weighted-most}
+use Rattle.allocation.specs.Allocate.{unitSums, allUnitSums}
 
 -- the cells of one unit, and of all units
 module _ (shapes : List ℕ) {meters : List Row} (e : Each (RowBounds shapes) meters) where
@@ -55,7 +34,7 @@ module _ (shapes : List ℕ) {meters : List Row} (e : Each (RowBounds shapes) me
         total-const 500 0 classes,
       )
 
-  pub cells-total : total (λ unit. sizes (cellsOf shapes meters unit)) 0 units ≤ length meters * 20000000 + 384
+  cells-total : total (λ unit. sizes (cellsOf shapes meters unit)) 0 units ≤ length meters * 20000000 + 384
   cells-total =
       let c : ℕ → ℕ = λ unit. sizes (cellsOf shapes meters unit) in
       let t : ℕ → ℕ = λ unit. total (thousandths shapes meters unit) 0 classes in
@@ -66,11 +45,6 @@ module _ (shapes : List ℕ) {meters : List Row} (e : Each (RowBounds shapes) me
         total-const 12000 0 units,
         thousandths-total shapes e 0 units 0 classes,
       )
-
-  pub cells-of-unit : (unit : ℕ) → sizes (cellsOf shapes meters unit) ≤ length meters * 20000000 + 12
-  cells-of-unit unit =
-      let t : ℕ → ℕ = λ unit. total (thousandths shapes meters unit) 0 classes in
-      omega (arith, unit-thousandths unit, total-one t unit, thousandths-total shapes e unit 1 0 classes)
 
 -- n and a of all units
 module _ (s : Settings) {meters : List Row} (e : Each (RowBounds (s .shapes)) meters) (few : length meters ≤ 65536) where

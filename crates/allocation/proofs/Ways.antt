@@ -1,24 +1,24 @@
 -- The ways of an allocate call, one for each cause and one for acceptance.
 use Prim.Native.Nat.{ℕ, zero, suc, _≤_, _<_}
-use mathlib.Core.Path.{_≡_, refl, _∙_, ap₂}
-use mathlib.Core.Bool.{Bool, true, false}
+use mathlib.Core.Path.{_≡_, refl}
+use mathlib.Core.Bool.{true, false}
 use mathlib.Core.List.{List}
-use borrow.Author.Tests.{lt-ltb, le-ltb}
-use lib.IntN.{ℤ, pos}
+use native.Mathlib.Omega.{arith}
+use borrow.Author.Tests.{lt-ltb, le-ltb, ne-eqb}
+use lib.IntN.{ℤ}
 use lib.ListN.{length}
-use lib.Signed.{ltZ}
+use Rattle.refusals.specs.Causes.{bookIllFormed, volumesShort, takeUnset, shapeOfDefaultMissing, accepted}
 use Rattle.book.specs.declared.Settings.{Settings}
 use Rattle.book.specs.Settings.{takeIsSet}
-use Rattle.book.specs.Book.{Book, usedRows, wellFormed}
-use Rattle.book.specs.Causes.{refuse, accepted, bookIllFormed, volumesShort, takeUnset, shapeOfDefaultMissing, weightedBelowOne, toleranceExceeded}
-use Rattle.book.specs.Contracts.{lent}
-use Rattle.allocation.specs.declared.Allocated.{Allocated}
-use Rattle.allocation.specs.declared.UnitSums.{UnitSums}
-use Rattle.allocation.specs.Energy.{anyLacksShape}
-use Rattle.allocation.specs.Correction.{units, unallocatedOf, weightedTotal}
-use Rattle.allocation.specs.Volumes.{volumesOf}
-use Rattle.allocation.specs.Allocate.{exceedsTolerance, sumsCause, metersCause, allocationCause, figuresOf, refusedWith, withVolumes, allocationOutcome, allocateCall}
-use Rattle.allocation.specs.Contracts.{AllocatedAs, AllocationGives}
+use Rattle.book.specs.Book.{Book, usedRows, wellFormed, lent}
+use Rattle.cells.specs.Energy.{anyLacksShape, countsOf}
+use Rattle.cells.specs.Cells.{units}
+use Rattle.cells.specs.Helpers.{countList}
+use Rattle.correction.specs.declared.Corrected.{Corrected}
+use Rattle.correction.specs.Correction.{sumsCause}
+use Rattle.correction.specs.Outcome.{CorrectionGives, correctedBy, correctionOf, volumesWritten, writtenBy}
+use Rattle.allocation.specs.Allocate.{metersCause, allocationCause, figuresOf, refusedWith, allocationOutcome, allocateCall, allUnitSums, AllocationGives}
+use Rattle.allocation.specs.Helpers.{AllocatedAs, answeredWith}
 use Rattle.allocation.proofs.Steps.{metersIn, sumsIn}
 
 pub allocate-on-ill-formed : (s : Settings) (words : List ℕ) (slice : List ℤ) → wellFormed (lent s words) ≡ false
@@ -39,11 +39,12 @@ refusal : (b : Book) (slice : List ℤ) (k : ℕ) → allocationCause b slice �
 unfolding allocateCall allocationOutcome
 refusal b slice k h = rw h (record { answer-is = refl; volumes-are = refl })
 
--- causes 10 and 11, by their tests
-sums-cause : (s : Settings) (sums : List UnitSums) {below exceeds : Bool} → ltZ (weightedTotal sums) (pos 1) ≡ below → exceedsTolerance (s .tolerance) (unallocatedOf (s .«take_wh») sums) (weightedTotal sums) ≡ exceeds
-    → sumsCause s sums ≡ refuse below weightedBelowOne (refuse exceeds toleranceExceeded accepted)
-unfolding sumsCause
-sums-cause s sums p q = ap₂ (λ (a b : Bool). refuse a weightedBelowOne (refuse b toleranceExceeded accepted)) p q
+-- the allocation of a book that only causes 10 and 11 can refuse is the correction of its sums, with its counts
+corrected-by : (b : Book) (slice : List ℤ) (cause : ℕ) → let sums = allUnitSums (b .settings) (usedRows b) in let takeWh = b .settings .«take_wh» in
+    AllocatedAs (allocationOutcome cause b slice) (answeredWith (correctedBy cause takeWh sums) (countList (countsOf (usedRows b)))) (writtenBy cause takeWh sums slice)
+unfolding allocationOutcome correctedBy writtenBy answeredWith figuresOf
+corrected-by b slice zero = record { answer-is = refl; volumes-are = refl }
+corrected-by b slice (suc k) = rw (ne-eqb (suc k) accepted (λ e. omega arith)) (record { answer-is = refl; volumes-are = refl })
 
 module _ (s : Settings) (words : List ℕ) (wf : wellFormed (lent s words) ≡ true) (slice : List ℤ) where
   pub way-short : length slice < units → AllocatedAs (allocateCall (lent s words) slice) (refusedWith volumesShort) slice
@@ -61,19 +62,12 @@ module _ (s : Settings) (words : List ℕ) (wf : wellFormed (lent s words) ≡ t
       way-lacks h = refusal (lent s words) slice 8 (rw (wf, le-ltb (length slice) units long, set, h))
 
       module _ (shaped : anyLacksShape (s .shapes) (metersIn s words) ≡ false) where
-        from-sums : allocationCause (lent s words) slice ≡ sumsCause s (sumsIn s words)
+        from-sums : allocationCause (lent s words) slice ≡ sumsCause (s .«take_wh») (s .tolerance) (sumsIn s words)
         unfolding allocationCause metersCause usedRows
         from-sums = rw (wf, le-ltb (length slice) units long, set, shaped)
 
-        pub way-below : ltZ (weightedTotal (sumsIn s words)) (pos 1) ≡ true → AllocatedAs (allocateCall (lent s words) slice) (refusedWith weightedBelowOne) slice
-        way-below h = refusal (lent s words) slice 9 (from-sums ∙ sums-cause s (sumsIn s words) h refl)
-
-        module _ (above : ltZ (weightedTotal (sumsIn s words)) (pos 1) ≡ false) where
-          pub way-exceeds : exceedsTolerance (s .tolerance) (unallocatedOf (s .«take_wh») (sumsIn s words)) (weightedTotal (sumsIn s words)) ≡ true
-              → AllocatedAs (allocateCall (lent s words) slice) (refusedWith toleranceExceeded) slice
-          way-exceeds h = refusal (lent s words) slice 10 (from-sums ∙ sums-cause s (sumsIn s words) above h)
-
-          pub way-accepted : {answer : Allocated} {after : List ℤ} → exceedsTolerance (s .tolerance) (unallocatedOf (s .«take_wh») (sumsIn s words)) (weightedTotal (sumsIn s words)) ≡ false
-              → answer ≡ figuresOf s (metersIn s words) → after ≡ withVolumes (volumesOf (s .«take_wh») (sumsIn s words)) slice → AllocatedAs (allocateCall (lent s words) slice) answer after
-          unfolding allocateCall allocationOutcome usedRows
-          way-accepted h e v = rw (from-sums ∙ sums-cause s (sumsIn s words) above h) (record { answer-is = e; volumes-are = v })
+        pub way-corrected : {x : Corrected} {after : List ℤ} → CorrectionGives (s .«take_wh») (s .tolerance) (sumsIn s words) slice x after
+            → AllocatedAs (allocateCall (lent s words) slice) (answeredWith x (countList (countsOf (metersIn s words)))) after
+        unfolding allocateCall correctionOf volumesWritten usedRows
+        way-corrected g =
+            rw (g .answer, g .volumes, from-sums) (corrected-by (lent s words) slice (sumsCause (s .«take_wh») (s .tolerance) (sumsIn s words)))

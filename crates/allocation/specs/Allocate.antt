@@ -1,38 +1,42 @@
 -- "Allocate: reads the book, changes nothing in it, writes the first 32 words of a lent signed 64-bit slice".
-use Prim.Native.Nat.{ℕ, zero, suc, _*_}
-use mathlib.Core.Bool.{Bool, not}
-use mathlib.Core.List.{List, _++_}
+use Prim.Native.Nat.{ℕ, zero, suc}
+use mathlib.Core.Path.{_≡_}
+use mathlib.Core.Bool.{not}
+use mathlib.Core.List.{List, map}
 use lib.Dec.{ltb}
-use lib.IntN.{ℤ, pos, natAbs}
-use lib.Signed.{ltZ}
-use lib.ListN.{length, drop}
+use lib.IntN.{ℤ, pos}
+use lib.ListN.{length}
+use Rattle.refusals.specs.Causes.{refuse, accepted, bookIllFormed, volumesShort, takeUnset, shapeOfDefaultMissing}
 use Rattle.book.specs.declared.Settings.{Settings}
 use Rattle.book.specs.Settings.{takeIsSet}
 use Rattle.book.specs.Rows.{Row}
 use Rattle.book.specs.Book.{Book, usedRows, wellFormed}
-use Rattle.book.specs.Causes.{refuse, accepted, bookIllFormed, volumesShort, takeUnset, shapeOfDefaultMissing, weightedBelowOne, toleranceExceeded}
+use Rattle.cells.specs.Energy.{Counts, countsOf, noCounts, anyLacksShape}
+use Rattle.cells.specs.Cells.{units, cellsOf, countFrom}
+use Rattle.correction.specs.declared.UnitSums.{UnitSums}
+use Rattle.correction.specs.Correction.{unallocatedOf, weightedTotal, netOf, weightedOf, sumsCause}
+use Rattle.correction.specs.Volumes.{volumesOf, withVolumes}
 use Rattle.allocation.specs.declared.Allocated.{Allocated}
-use Rattle.allocation.specs.Energy.{Counts, countsOf, noCounts, anyLacksShape}
-use Rattle.allocation.specs.declared.UnitSums.{UnitSums}
-use Rattle.allocation.specs.Correction.{units, allUnitSums, unallocatedOf, weightedTotal}
-use Rattle.allocation.specs.Volumes.{volumesOf}
+use Rattle.allocation.specs.declared.AllocationAnswer.{AllocationAnswer}
 
--- "size of U × 1,000,000 above g × W"
-unfoldable pub exceedsTolerance : ℕ → ℤ → ℤ → Bool
-exceedsTolerance g u w = ltb (g * natAbs w) (natAbs u * 1000000)
+-- a unit's n and a
+unfoldable pub unitSums : Settings → List Row → ℕ → UnitSums
+unitSums s meters unit =
+    record {
+      net = netOf 0 (cellsOf (s .shapes) meters unit);
+      weighted = weightedOf (cellsOf (s .shapes) meters unit) (s .weights);
+    }
 
--- causes 10 and 11, "W below 1" first
-unfoldable pub sumsCause : Settings → List UnitSums → ℕ
-sumsCause s sums =
-    refuse (ltZ (weightedTotal sums) (pos 1)) weightedBelowOne
-    (refuse (exceedsTolerance (s .tolerance) (unallocatedOf (s .«take_wh») sums) (weightedTotal sums)) toleranceExceeded accepted)
+-- those of the 32 units, in unit order
+unfoldable pub allUnitSums : Settings → List Row → List UnitSums
+allUnitSums s meters = map (unitSums s meters) (countFrom 0 units)
 
 -- causes 8 to 11, of settings and meters
 unfoldable pub metersCause : Settings → List Row → ℕ
 metersCause s meters =
     refuse (not (takeIsSet s)) takeUnset
     (refuse (anyLacksShape (s .shapes) meters) shapeOfDefaultMissing
-    (sumsCause s (allUnitSums s meters)))
+    (sumsCause (s .«take_wh») (s .tolerance) (allUnitSums s meters)))
 
 unfoldable pub allocationCause : Book → List ℤ → ℕ
 allocationCause b volumes =
@@ -68,10 +72,6 @@ pub record Allocation : Type 0 where
   pub book : Book
   pub volumes : List ℤ
 
--- "writes the first 32 words": a slice with these volumes at its start and every word after the 32nd as it was
-unfoldable pub withVolumes : List ℤ → List ℤ → List ℤ
-withVolumes volumes slice = volumes ++ drop units slice
-
 unfoldable pub allocationOutcome : ℕ → Book → List ℤ → Allocation
 allocationOutcome zero b slice =
     record {
@@ -83,3 +83,10 @@ allocationOutcome (suc k) b slice = record { answer = refusedWith (suc k); book 
 
 unfoldable pub allocateCall : Book → List ℤ → Allocation
 allocateCall b slice = allocationOutcome (allocationCause b slice) b slice
+
+-- the promise of the allocate call: the answer, the rows and the volume slice afterwards are those of its outcome
+pub record AllocationGives (o : Allocation) (r : AllocationAnswer) (rowsAfter : List ℕ) (volumesAfter : List ℤ) : Type 0 where
+  pub answer : r .answer ≡ o .answer
+  pub settings : r .settings ≡ o .book .settings
+  pub rows : rowsAfter ≡ o .book .rows
+  pub volumes : volumesAfter ≡ o .volumes

@@ -1,7 +1,3 @@
--- From meters to cells, correction, and the last watt-hours: what an allocation works out.
-pub mod Energy
-pub mod Cells
-pub mod Correction
-pub mod Volumes
+-- The allocate call.
 pub mod Allocate
-pub mod Contracts
+pub mod Helpers

@@ -1,11 +1,7 @@
-// What an allocation works out: from meters to cells, from cells to shares, and the last watt-hours.
+// The allocate call.
 use book::Settings;
 
 pub mod allocate;
-pub mod cells;
-pub mod meters;
-pub mod shares;
-pub mod sums;
 
 // The number given, U and W, and the four counts; zeros beside a refusal's number.
 #[repr(C)]
@@ -24,17 +20,4 @@ pub struct Allocated {
 pub struct AllocationAnswer {
     pub answer: Allocated,
     pub settings: Settings,
-}
-
-// What a meter comes to: where its energy comes from, the energy in Wh, and whether it lacks its shape.
-pub struct Use {
-    pub source: u64,
-    pub wh: u64,
-    pub lacks: bool,
-}
-
-// A unit's n and a.
-pub struct UnitSums {
-    pub net: i64,
-    pub weighted: i64,
 }

@@ -6,11 +6,12 @@ use mathlib.Core.List.{List}
 use lib.Dec.{ltb}
 use lib.ListN.{length}
 use Rattle.book.specs.declared.Settings.{Settings}
+use Rattle.book.specs.declared.Setting.{Setting}
+use Rattle.book.specs.declared.Setting.the-variants.{Shape, Weight, Tolerance, GroupTake}
 use Rattle.book.specs.Limits.{classes, categories}
-use Rattle.book.specs.Settings.{isWeight, isShape, takeFormed, allOf, freshSettings, settingsFormed, withMeters}
+use Rattle.book.specs.Settings.{isWeight, isShape, takeFormed, allOf, freshSettings, settingsFormed, settingInRange, withSetting, withMeters}
 use Rattle.book.specs.Rows.{Row, capacity, rowsFormed, written}
-use Rattle.book.specs.Book.{Book, usedRows, wellFormed}
-use Rattle.book.specs.Calls.{Setting, shape, weight, tolerance, groupTake, settingInRange, withSetting, withRows}
+use Rattle.book.specs.Book.{Book, usedRows, wellFormed, withRows}
 use Rattle.book.proofs.AllOf.{all-set}
 use Rattle.book.proofs.WellFormed.{room, FormedBook, formed-book, book-formed, formed-settings, settings-formed}
 use Rattle.book.proofs.Written.{length-written, rows-of-written}
@@ -18,33 +19,33 @@ use Rattle.book.proofs.Written.{length-written, rows-of-written}
 -- a setting in range replaced
 setting-formed : (x : Setting) (s : Settings) → settingInRange x ≡ true → settingsFormed s ≡ true → settingsFormed (withSetting x s) ≡ true
 unfolding withSetting takeFormed
-setting-formed (shape k wh) s h f =
+setting-formed (Shape k wh) s h f =
     let p = formed-settings s f in
     let wh-formed = and-eq-true-iff (ltb k categories) (isShape wh) .0 h .1 in
-    settings-formed (withSetting (shape k wh) s)
+    settings-formed (withSetting (Shape k wh) s)
     (record {
       weights-formed = p .weights-formed;
       shapes-formed = all-set isShape (s .shapes) k wh (p .shapes-formed) wh-formed;
       tolerance-formed = p .tolerance-formed;
       take-formed = p .take-formed;
     })
-setting-formed (weight k thousandths) s h f =
+setting-formed (Weight k thousandths) s h f =
     let p = formed-settings s f in
     let thousandths-formed = and-eq-true-iff (ltb k classes) (isWeight thousandths) .0 h .1 in
-    settings-formed (withSetting (weight k thousandths) s)
+    settings-formed (withSetting (Weight k thousandths) s)
     (record {
       weights-formed = all-set isWeight (s .weights) k thousandths (p .weights-formed) thousandths-formed;
       shapes-formed = p .shapes-formed;
       tolerance-formed = p .tolerance-formed;
       take-formed = p .take-formed;
     })
-setting-formed (tolerance g) s h f =
+setting-formed (Tolerance g) s h f =
     let p = formed-settings s f in
-    settings-formed (withSetting (tolerance g) s)
+    settings-formed (withSetting (Tolerance g) s)
     (record { weights-formed = p .weights-formed; shapes-formed = p .shapes-formed; tolerance-formed = h; take-formed = p .take-formed })
-setting-formed (groupTake wh) s h f =
+setting-formed (GroupTake wh) s h f =
     let p = formed-settings s f in
-    settings-formed (withSetting (groupTake wh) s)
+    settings-formed (withSetting (GroupTake wh) s)
     (record { weights-formed = p .weights-formed; shapes-formed = p .shapes-formed; tolerance-formed = p .tolerance-formed; take-formed = h })
 
 -- another number of meters
@@ -62,10 +63,10 @@ capacity-same words more h = rw h
 
 pub count-kept : (x : Setting) (s : Settings) → withSetting x s .meters ≡ s .meters
 unfolding withSetting
-count-kept (shape k wh) s = refl
-count-kept (weight k thousandths) s = refl
-count-kept (tolerance g) s = refl
-count-kept (groupTake wh) s = refl
+count-kept (Shape k wh) s = refl
+count-kept (Weight k thousandths) s = refl
+count-kept (Tolerance g) s = refl
+count-kept (GroupTake wh) s = refl
 
 module _ (b : Book) (wf : wellFormed b ≡ true) where
   -- the book with a setting in range replaced

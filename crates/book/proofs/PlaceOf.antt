@@ -10,7 +10,7 @@ use lib.Dec.{ltb, eqb}
 use lib.ListN.{length, getD}
 use Rattle.words.specs.Mpan.{isMpan}
 use Rattle.book.specs.Rows.{Row, firstRow, rowsOf, rowsFormed, isKnown}
-use Rattle.book.specs.Contracts.{placeOf}
+use Rattle.book.specs.Helpers.{placeOf}
 use Rattle.book.proofs.Rising.{formed-first, all-above, all-mpans}
 use Rattle.book.proofs.RowsOf.{length-rows, row-of}
 

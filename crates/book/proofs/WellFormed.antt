@@ -9,8 +9,9 @@ use lib.ListN.{length}
 use Rattle.book.specs.declared.Settings.{Settings}
 use Rattle.book.specs.Settings.{isWeight, isShape, isTolerance, takeFormed, allOf, settingsFormed}
 use Rattle.book.specs.Rows.{capacity, rowsOf, rowsFormed}
-use Rattle.book.specs.Book.{Book, usedRows, wellFormed}
-use Rattle.book.specs.Contracts.{lent, RowsReady}
+use Rattle.book.specs.Book.{Book, usedRows, wellFormed, lent}
+use Rattle.book.specs.Helpers.{RowsReady}
+use Rattle.book.proofs.RowsOf.{length-rows}
 
 -- a number of meters within capacity leaves room for their words
 pub room : (words : List ℕ) (n : ℕ) → n ≤ capacity words → 3 * n ≤ length words
@@ -47,6 +48,11 @@ formed-settings s h =
 pub settings-formed : (s : Settings) → FormedSettings s → settingsFormed s ≡ true
 unfolding settingsFormed
 settings-formed s f = rw (f .weights-formed, f .shapes-formed, f .tolerance-formed, f .take-formed)
+
+-- as many rows are in use as there are meters
+pub used-count : (b : Book) → length (usedRows b) ≡ b .settings .meters
+unfolding usedRows
+used-count b = length-rows (b .settings .meters) (b .rows)
 
 -- as the code tests a book
 module _ (s : Settings) (words : List ℕ) where

@@ -1,4 +1,4 @@
--- Rows with a reading stored: one word of a known meter's row, and the issue that it holds. The rows stay well formed.
+-- Rows with a reading stored: one word of a known meter's row. The rows stay well formed.
 use Prim.Native.Nat.{ℕ, suc, _+_, _*_, _≤_}
 use mathlib.Core.Path.{_≡_, refl, sym, _∙_, ap}
 use mathlib.Core.Bool.{true, true≢false}
@@ -6,9 +6,9 @@ use mathlib.Core.List.{List, [], _∷_}
 use native.Mathlib.Omega.{arith}
 use borrow.Author.Tests.{eq-eqb, ne-eqb}
 use lib.ListN.{length, getD, set}
-use Rattle.words.specs.Reading.{isReading, issueOf}
-use Rattle.book.specs.Rows.{Row, firstRow, rowsOf, rowsFormed, isKnown, issueHeld, withReading, written}
-use Rattle.book.specs.Contracts.{placeOf}
+use Rattle.words.specs.Reading.{isReading}
+use Rattle.book.specs.Rows.{Row, firstRow, rowsOf, rowsFormed, isKnown, withReading, written}
+use Rattle.book.specs.Helpers.{placeOf}
 use Rattle.book.proofs.RowsOf.{row-of}
 use Rattle.book.proofs.Rising.{formed-none, formed-first, first-formed}
 use Rattle.book.proofs.PlaceOf.{by-mpan, place-next, place-here, known-next, first-above, known-within-in, known-mpan-in}
@@ -23,14 +23,6 @@ module _ (r : Row) (rows : List Row) (m : ℕ) where
   unfolding withReading
   stored-here w h = rw (eq-eqb (r .mpan) m h)
 
-  pub issue-next : (r .mpan ≡ m → ⊥) → issueHeld m (r ∷ rows) ≡ issueHeld m rows
-  unfolding issueHeld
-  issue-next h = rw (ne-eqb (r .mpan) m h)
-
-  pub issue-here : r .mpan ≡ m → issueHeld m (r ∷ rows) ≡ issueOf (r .reading)
-  unfolding issueHeld
-  issue-here h = rw (eq-eqb (r .mpan) m h)
-
 -- a known meter's row has another reading
 pub reading-replaced : (before m w : ℕ) (rows : List Row) (d : Row) → rowsFormed before rows ≡ true → isKnown m rows ≡ true → withReading m w rows ≡ set rows (placeOf m rows) (record { mpan = m; registration = getD rows (placeOf m rows) d .registration; reading = w })
 unfolding isKnown
@@ -42,19 +34,6 @@ reading-replaced before m w (r ∷ rows) d f h =
     let k : isKnown m rows ≡ true = rw (known-next r rows m n) at h in
     rw (stored-next r rows m w n, place-next r rows m b, reading-replaced (r .mpan) m w rows d (formed-first before r rows f .after) k))
     (λ b. rw (stored-here r rows m w b, place-here r rows m (omega arith)))
-    (λ b. absurd (true≢false (sym h ∙ first-above before r rows m f b)))
-
--- the issue that a known meter holds is that of the reading in its row
-pub issue-at : (before m : ℕ) (rows : List Row) (d : Row) → rowsFormed before rows ≡ true → isKnown m rows ≡ true → issueHeld m rows ≡ issueOf (getD rows (placeOf m rows) d .reading)
-unfolding isKnown
-issue-at before m [] d f h = absurd (true≢false (sym h))
-issue-at before m (r ∷ rows) d f h =
-    by-mpan r m
-    (λ b.
-    let n : r .mpan ≡ m → ⊥ = λ e. omega arith in
-    let k : isKnown m rows ≡ true = rw (known-next r rows m n) at h in
-    rw (issue-next r rows m n, place-next r rows m b) (issue-at (r .mpan) m rows d (formed-first before r rows f .after) k))
-    (λ b. rw (issue-here r rows m b, place-here r rows m (omega arith)))
     (λ b. absurd (true≢false (sym h ∙ first-above before r rows m f b)))
 
 pub length-reading : (m w : ℕ) (rows : List Row) → length (withReading m w rows) ≡ length rows
@@ -97,9 +76,3 @@ module _ (words : List ℕ) (n m before : ℕ) (f : rowsFormed before (rowsOf n 
       let e = row-of n (placeOf m (rowsOf n words)) words (firstRow words) there in
       rw (reading-replaced before m w (rowsOf n words) (firstRow words) f h, e)
       (rw (known-mpan-in words n m before f h) at (written-reading n (placeOf m (rowsOf n words)) w words room there))
-
-  -- and its issue is in word 2
-  pub issue-in : issueHeld m (rowsOf n words) ≡ issueOf (getD words (3 * placeOf m (rowsOf n words) + 2) 0)
-  issue-in =
-      issue-at before m (rowsOf n words) (firstRow words) f h
-      ∙ ap (λ (r : Row). issueOf (r .reading)) (row-of n (placeOf m (rowsOf n words)) words (firstRow words) (known-within-in words n m h))

@@ -10,7 +10,7 @@ use Rattle.words.specs.Mpan.{isMpan}
 use Rattle.words.specs.Registration.{isRegistration}
 use Rattle.words.proofs.ReadingWord.{no-reading-well-formed}
 use Rattle.book.specs.Rows.{Row, firstRow, rowsOf, rowsFormed, isKnown, newRow, withRegistration, written}
-use Rattle.book.specs.Contracts.{placeOf}
+use Rattle.book.specs.Helpers.{placeOf}
 use Rattle.book.proofs.RowsOf.{row-of}
 use Rattle.book.proofs.Rising.{Words, formed-none, formed-first, first-formed}
 use Rattle.book.proofs.PlaceOf.{by-mpan, place-next, place-here, known-next, known-here, first-above, known-within-in, known-mpan-in, place-within, place-within-in}

@@ -1,8 +1,7 @@
--- The book, and the six calls that write it, in document 01's order.
+-- The state of a book, in document 01's order: settings, rows, the well-formed book, and what is stored in it.
 pub mod Limits
 pub mod Settings
 pub mod Rows
 pub mod Book
-pub mod Causes
-pub mod Calls
-pub mod Contracts
+pub mod Store
+pub mod Helpers

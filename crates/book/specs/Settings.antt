@@ -1,12 +1,15 @@
 -- "Settings, held in a record by value".
 use Prim.Native.Nat.{ℕ}
-use mathlib.Core.Bool.{Bool, true, _&&_, _||_}
+use mathlib.Core.Bool.{Bool, true, not, _&&_, _||_}
 use mathlib.Core.List.{List, [], _∷_}
-use lib.Dec.{leb, eqb}
+use lib.Dec.{leb, ltb, eqb}
 use lib.IntN.{ℤ, pos, natAbs}
 use lib.Signed.{leZ}
 use lib.ListN.{set, replicate}
+use Rattle.refusals.specs.Causes.{refuse, accepted, argumentOutOfRange}
 use Rattle.book.specs.declared.Settings.{Settings}
+use Rattle.book.specs.declared.Setting.{Setting}
+use Rattle.book.specs.declared.Setting.the-variants.{Shape, Weight, Tolerance, GroupTake}
 use Rattle.book.specs.Limits.{classes, weightMost, categories, shapeMost, shapeMissing, toleranceMost, takeLeast, takeMost, takeFlagUnset, takeFlagSet}
 
 -- "A fresh book has 0 meters, all weights 0, all shapes missing, g = 1,000, no Take"
@@ -58,8 +61,7 @@ settingsFormed s =
     && isTolerance (s .tolerance)
     && takeFormed (s .«take_set») (s .«take_wh»)
 
--- the settings with one of them replaced
-
+-- the settings with another number of meters
 abbrev pub withMeters : ℕ → Settings → Settings
 withMeters n s =
     record {
@@ -71,19 +73,9 @@ withMeters n s =
       «take_wh» = s .«take_wh»;
     }
 
-abbrev pub withWeight : ℕ → ℕ → Settings → Settings
-withWeight class thousandths s =
-    record {
-      meters = s .meters;
-      weights = set (s .weights) class thousandths;
-      shapes = s .shapes;
-      tolerance = s .tolerance;
-      «take_set» = s .«take_set»;
-      «take_wh» = s .«take_wh»;
-    }
-
-abbrev pub withShape : ℕ → ℕ → Settings → Settings
-withShape category wh s =
+-- "Shape, weight, tolerance, Take: replace that setting; a shape may be set back to missing"
+unfoldable pub withSetting : Setting → Settings → Settings
+withSetting (Shape category wh) s =
     record {
       meters = s .meters;
       weights = s .weights;
@@ -92,9 +84,16 @@ withShape category wh s =
       «take_set» = s .«take_set»;
       «take_wh» = s .«take_wh»;
     }
-
-abbrev pub withTolerance : ℕ → Settings → Settings
-withTolerance g s =
+withSetting (Weight class thousandths) s =
+    record {
+      meters = s .meters;
+      weights = set (s .weights) class thousandths;
+      shapes = s .shapes;
+      tolerance = s .tolerance;
+      «take_set» = s .«take_set»;
+      «take_wh» = s .«take_wh»;
+    }
+withSetting (Tolerance g) s =
     record {
       meters = s .meters;
       weights = s .weights;
@@ -103,9 +102,7 @@ withTolerance g s =
       «take_set» = s .«take_set»;
       «take_wh» = s .«take_wh»;
     }
-
-abbrev pub withTake : ℤ → Settings → Settings
-withTake wh s =
+withSetting (GroupTake wh) s =
     record {
       meters = s .meters;
       weights = s .weights;
@@ -114,3 +111,14 @@ withTake wh s =
       «take_set» = takeFlagSet;
       «take_wh» = wh;
     }
+
+-- "an argument outside its range above", of a setting to be replaced
+abbrev pub settingInRange : Setting → Bool
+settingInRange (Shape category wh) = ltb category categories && isShape wh
+settingInRange (Weight class thousandths) = ltb class classes && isWeight thousandths
+settingInRange (Tolerance g) = isTolerance g
+settingInRange (GroupTake wh) = isTake wh
+
+-- the cause for which a setting is not replaced in a well-formed book
+unfoldable pub settingCause : Setting → ℕ
+settingCause x = refuse (not (settingInRange x)) argumentOutOfRange accepted

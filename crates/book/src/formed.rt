@@ -1,48 +1,24 @@
 // The test that a book is well formed.
 use crate::Settings;
+use crate::ranges::is_take;
+use crate::ranges::is_tolerance;
 ghost use mathlib.Core.Path.{_≡_};
 ghost use mathlib.Core.Bool.{_&&_};
 ghost use Prim.Native.Nat.{_*_, _≤_};
 ghost use lib.Dec.{ltb};
 ghost use lib.ListN.{length};
-ghost use Rattle.book.specs.Settings.{isWeight, isShape, isTolerance, isTake, takeFormed, allOf, settingsFormed};
 ghost use Rattle.words.specs.Registration.{isRegistration};
 ghost use Rattle.words.specs.Reading.{isReading};
+ghost use Rattle.book.specs.Settings.{takeFormed, allOf, settingsFormed};
 ghost use Rattle.book.specs.Rows.{rowsOf, rowsFormed};
-ghost use Rattle.book.specs.Book.{wellFormed};
-ghost use Rattle.book.specs.Contracts.{lent, within};
+ghost use Rattle.book.specs.Book.{wellFormed, lent};
+ghost use Rattle.book.specs.Helpers.{within};
 
 // A number of 32 bits at the full width.
 pub fn wide(x: u32) -> u64
     ensures { λ r. ⌜ r ≡ x ⌝ }
 {
     x as u64
-}
-
-// Whether a number is in the range of a weight, a shape, the tolerance or the Take.
-
-pub fn is_weight(thousandths: u64) -> bool
-    ensures { λ r. ⌜ r ≡ isWeight thousandths ⌝ }
-{
-    thousandths <= Settings::WEIGHT_MAX
-}
-
-pub fn is_shape(wh: u64) -> bool
-    ensures { λ r. ⌜ r ≡ isShape wh ⌝ }
-{
-    (wh <= Settings::SHAPE_MAX) | (wh == Settings::SHAPE_MISSING)
-}
-
-pub fn is_tolerance(g: u64) -> bool
-    ensures { λ r. ⌜ r ≡ isTolerance g ⌝ }
-{
-    g <= Settings::TOLERANCE_MAX
-}
-
-pub fn is_take(wh: i64) -> bool
-    ensures { λ r. ⌜ r ≡ isTake wh ⌝ }
-{
-    (Settings::TAKE_MIN <= wh) & (wh <= Settings::TAKE_MAX)
 }
 
 // Whether a flag and the Take beside it are well formed.

@@ -1,9 +1,10 @@
-// The book of one GSP Group and one Settlement Period: its settings, its rows, and the calls that write them.
+// The state of the book of one GSP Group and one Settlement Period: its settings and its rows, the test that they are well formed,
+// and how a setting, a registration or a reading is stored in them.
 ghost use mathlib.Core.Path.{_≡_};
 ghost use Rattle.book.specs.Settings.{freshSettings};
 
-pub mod calls;
 pub mod formed;
+pub mod ranges;
 pub mod replace;
 pub mod rows;
 pub mod store;
@@ -33,10 +34,28 @@ pub struct Place {
     pub known: bool,
 }
 
-// What storing a registration gives: the number, and how many meters there are then.
+// One of the four settings that a call replaces, with its new value.
+pub enum Setting {
+    Shape { category: u64, wh: u64 },
+    Weight { class: u64, thousandths: u64 },
+    Tolerance(u64),
+    GroupTake(i64),
+}
+
+// What a meter holds: words 1 and 2 of its row, or nothing (both 0) where it has none.
+pub struct Held {
+    pub known: bool,
+    pub registration: u64,
+    pub reading: u64,
+}
+
+// What storing a registration or a reading gives: the number, how many meters there are then, and what the meter held before and
+// holds after, so that a caller can work out the change. A refusal changes nothing, and tells nothing held on both sides.
 pub struct Stored {
     pub number: u64,
     pub meters: usize,
+    pub before: Held,
+    pub after: Held,
 }
 
 impl Settings {

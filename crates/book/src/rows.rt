@@ -8,7 +8,7 @@ ghost use Prim.Native.Nat.{_+_, _*_, _^_, _≤_, _<_, min};
 ghost use lib.Dec.{ltb};
 ghost use lib.ListN.{length, take, drop};
 ghost use Rattle.book.specs.Rows.{capacity, newRow, rowsOf, rowsFormed, written};
-ghost use Rattle.book.specs.Contracts.{placeOf, placeIn};
+ghost use Rattle.book.specs.Helpers.{placeOf, placeIn};
 
 // Above every MPAN.
 const TOP: u64 = 9_223_372_036_854_775_808;

@@ -1,20 +1,100 @@
 // Registrations and readings stored in rows that were tested before.
+use crate::Held;
+use crate::Place;
 use crate::Stored;
-use crate::calls::ACCEPTED;
-use crate::calls::ARGUMENT_OUT_OF_RANGE;
-use crate::calls::CAPACITY_REACHED;
-use crate::calls::ISSUE_NOT_ABOVE;
-use crate::calls::METER_UNKNOWN;
-use crate::calls::QUALITY_REFUSED;
-use crate::calls::reading_in_range;
-use crate::calls::register_in_range;
+use crate::ranges::reading_in_range;
+use crate::ranges::register_in_range;
 use crate::rows::find;
 use crate::rows::insert_row;
 use crate::rows::row_capacity;
+use refusals::ACCEPTED;
+use refusals::ARGUMENT_OUT_OF_RANGE;
+use refusals::CAPACITY_REACHED;
+use refusals::ISSUE_NOT_ABOVE;
+use refusals::METER_UNKNOWN;
+use refusals::QUALITY_REFUSED;
 use words::Reading;
 use words::Registration;
-ghost use Rattle.book.specs.Calls.{registerCall, readingCall};
-ghost use Rattle.book.specs.Contracts.{RowsReady, Stores};
+ghost use mathlib.Core.Path.{_≡_};
+ghost use mathlib.Core.Bool.{true};
+ghost use Rattle.book.specs.Rows.{capacity, rowsOf};
+ghost use Rattle.book.specs.Helpers.{placeIn, RowsReady, nothingHeld, registrationStoring, readingStoring, notStored, Stores};
+
+// A meter that has no row.
+fn nothing_held() -> Held
+    ensures { λ r. ⌜ r ≡ nothingHeld ⌝ }
+{
+    Held {
+        known: false,
+        registration: 0,
+        reading: 0,
+    }
+}
+
+// What a refusal gives: its number, and the meters as they were.
+fn not_stored(number: u64, meters: usize) -> Stored
+    ensures { λ r. ⌜ r ≡ notStored number meters ⌝ }
+{
+    Stored {
+        number,
+        meters,
+        before: nothing_held(),
+        after: nothing_held(),
+    }
+}
+
+// Stores or replaces a meter's registration, where a search of the rows gave `place`.
+pub fn store_registration_at(
+    meters: usize,
+    place: Place,
+    rows: &mut [u64],
+    mpan: u64,
+    registration: Registration,
+) -> Stored
+    requires { ⌜ RowsReady meters (now rows) ⌝ ∗ ⌜ place ≡ placeIn mpan (rowsOf meters (now rows)) ⌝ }
+    ensures { λ r. ⌜ Stores mpan (registrationStoring (capacity (now (rows .entry))) mpan registration) meters (now (rows .entry)) r (now (rows .exit)) ⌝ }
+{
+    if !register_in_range(mpan, registration) {
+        return not_stored(ARGUMENT_OUT_OF_RANGE, meters);
+    }
+    let index = place.index;
+    let at = 3 * index;
+    if place.known {
+        let held = rows[at + 1];
+        let reading = rows[at + 2];
+        let word = registration.pack();
+        rows[at + 1] = word;
+        return Stored {
+            number: ACCEPTED,
+            meters,
+            before: Held {
+                known: true,
+                registration: held,
+                reading,
+            },
+            after: Held {
+                known: true,
+                registration: word,
+                reading,
+            },
+        };
+    }
+    if row_capacity(rows) <= meters {
+        return not_stored(CAPACITY_REACHED, meters);
+    }
+    let word = registration.pack();
+    insert_row(&mut rows[at..], meters - index, mpan, word);
+    Stored {
+        number: ACCEPTED,
+        meters: meters + 1,
+        before: nothing_held(),
+        after: Held {
+            known: true,
+            registration: word,
+            reading: words::NO_READING,
+        },
+    }
+}
 
 // Stores or replaces a meter's registration.
 pub fn store_registration(
@@ -24,56 +104,61 @@ pub fn store_registration(
     registration: Registration,
 ) -> Stored
     requires { ⌜ RowsReady meters (now rows) ⌝ }
-    ensures { λ r. ⌜ Stores (λ b. registerCall b mpan registration) meters (now (rows .entry)) (r .number) (r .meters) (now (rows .exit)) ⌝ }
+    ensures { λ r. ⌜ Stores mpan (registrationStoring (capacity (now (rows .entry))) mpan registration) meters (now (rows .entry)) r (now (rows .exit)) ⌝ }
 {
-    if !register_in_range(mpan, registration) {
-        return Stored {
-            number: ARGUMENT_OUT_OF_RANGE,
-            meters,
-        };
-    }
     let place = find(rows, meters, mpan);
-    let index = place.index;
-    if place.known {
-        rows[3 * index + 1] = registration.pack();
-        return Stored {
-            number: ACCEPTED,
-            meters,
-        };
+    store_registration_at(meters, place, rows, mpan, registration)
+}
+
+// Stores a meter's reading if its issue is above the one held, where a search of the rows gave `place`.
+pub fn store_reading_at(
+    meters: usize,
+    place: Place,
+    rows: &mut [u64],
+    mpan: u64,
+    reading: Reading,
+) -> Stored
+    requires { ⌜ RowsReady meters (now rows) ⌝ ∗ ⌜ place ≡ placeIn mpan (rowsOf meters (now rows)) ⌝ }
+    ensures { λ r. ⌜ Stores mpan (readingStoring mpan reading) meters (now (rows .entry)) r (now (rows .exit)) ⌝ }
+{
+    if !reading_in_range(mpan, reading) {
+        return not_stored(ARGUMENT_OUT_OF_RANGE, meters);
     }
-    if row_capacity(rows) <= meters {
-        return Stored {
-            number: CAPACITY_REACHED,
-            meters,
-        };
+    if !reading.allowed() {
+        return not_stored(QUALITY_REFUSED, meters);
     }
-    let at = 3 * index;
-    insert_row(&mut rows[at..], meters - index, mpan, registration.pack());
+    if !place.known {
+        return not_stored(METER_UNKNOWN, meters);
+    }
+    let at = 3 * place.index;
+    let registration = rows[at + 1];
+    let held = rows[at + 2];
+    if reading.issue <= words::issue(held) {
+        return not_stored(ISSUE_NOT_ABOVE, meters);
+    }
+    let word = reading.pack();
+    rows[at + 2] = word;
     Stored {
         number: ACCEPTED,
-        meters: meters + 1,
+        meters,
+        before: Held {
+            known: true,
+            registration,
+            reading: held,
+        },
+        after: Held {
+            known: true,
+            registration,
+            reading: word,
+        },
     }
 }
 
 // Stores a meter's reading if its issue is above the one held.
-pub fn store_reading(meters: usize, rows: &mut [u64], mpan: u64, reading: Reading) -> u64
+pub fn store_reading(meters: usize, rows: &mut [u64], mpan: u64, reading: Reading) -> Stored
     requires { ⌜ RowsReady meters (now rows) ⌝ }
-    ensures { λ r. ⌜ Stores (λ b. readingCall b mpan reading) meters (now (rows .entry)) r meters (now (rows .exit)) ⌝ }
+    ensures { λ r. ⌜ Stores mpan (readingStoring mpan reading) meters (now (rows .entry)) r (now (rows .exit)) ⌝ }
 {
-    if !reading_in_range(mpan, reading) {
-        return ARGUMENT_OUT_OF_RANGE;
-    }
-    if !reading.allowed() {
-        return QUALITY_REFUSED;
-    }
     let place = find(rows, meters, mpan);
-    if !place.known {
-        return METER_UNKNOWN;
-    }
-    let at = 3 * place.index + 2;
-    if reading.issue <= words::issue(rows[at]) {
-        return ISSUE_NOT_ABOVE;
-    }
-    rows[at] = reading.pack();
-    ACCEPTED
+    store_reading_at(meters, place, rows, mpan, reading)
 }

@@ -32,9 +32,6 @@ module _ {a b : ℤ} where
   pub le-of-lt-next : a <ℤ (b +ℤ pos 1) → a ≤ℤ b
   le-of-lt-next h = omega (linear, plus b (pos 1))
 
-pub plus-mono : {a b c d : ℤ} → a ≤ℤ b → c ≤ℤ d → (a +ℤ c) ≤ℤ (b +ℤ d)
-plus-mono {a} {b} {c} {d} h k = omega (linear, plus a c, plus b d)
-
 -- a factor that is not negative may be left off
 pub times-cancel-lt : (a b d : ℤ) → pos 0 ≤ℤ d → (a *ℤ d) <ℤ (b *ℤ d) → a <ℤ b
 times-cancel-lt a b (pos n) p h =

@@ -43,6 +43,3 @@ minus-times a b c = plus-times a (negℤ b) c ∙ ap (λ z. a *ℤ c +ℤ z) (ne
 module _ (a b c d : ℤ) where
   pub plus-exchange : (a +ℤ b) +ℤ (c +ℤ d) ≡ (a +ℤ c) +ℤ (b +ℤ d)
   plus-exchange = omega (linear, plus (a +ℤ b) (c +ℤ d), plus a b, plus c d, plus (a +ℤ c) (b +ℤ d), plus a c, plus b d)
-
-  pub minus-exchange : (a +ℤ b) -ℤ (c +ℤ d) ≡ (a -ℤ c) +ℤ (b -ℤ d)
-  minus-exchange = omega (linear, minus (a +ℤ b) (c +ℤ d), plus a b, plus c d, plus (a -ℤ c) (b -ℤ d), minus a c, minus b d)

@@ -9,8 +9,8 @@ use lib.Dec.{eqb}
 use borrow.Author.Tests.{eq-eqb, ne-eqb}
 use lib.ListN.{length, getD, take, drop, length-drop, drop-of-length-le}
 use lib.Seq.{drop-cons, drop-drop}
-use Rattle.period_file.proofs.Digits.{both}
 use Rattle.period_file.specs.Fields.{commaByte, startsWith, fieldCount, beforeComma, afterComma, field}
+use Rattle.period_file.proofs.Digits.{both}
 
 -- the bytes of the key from i on decide whether the line starts with it
 module _ (key line : List ℕ) where

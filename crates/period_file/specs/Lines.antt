@@ -5,13 +5,16 @@ use mathlib.Core.Bool.{Bool, _&&_, _||_, cond}
 use mathlib.Core.List.{List, [], _∷_}
 use lib.Dec.{leb, ltb, eqb}
 use lib.ListN.{length, drop}
+use Rattle.refusals.specs.Causes.{accepted}
+use Rattle.book.specs.declared.Setting.{Setting}
+use Rattle.book.specs.declared.Setting.the-variants.{Shape, Weight, Tolerance, GroupTake}
 use Rattle.book.specs.Book.{Book}
-use Rattle.book.specs.Causes.{accepted}
-use Rattle.book.specs.Calls.{shape, weight, tolerance, groupTake, Call, register, reading, setting, Outcome, callOutcome}
-use Rattle.book.specs.Contracts.{Gives}
+use Rattle.calls.specs.declared.Call.{Call}
+use Rattle.calls.specs.declared.Call.the-variants.{Register, Record, Set}
+use Rattle.calls.specs.Calls.{Outcome, callOutcome, Gives}
 use Rattle.period_file.specs.declared.Taken.{Taken}
 use Rattle.period_file.specs.declared.Line.{Line}
-use Rattle.period_file.specs.declared.Line.the-variants.{OutOfForm, Take, Tolerance, Weight, Shape, Meter, Reading}
+use Rattle.period_file.specs.declared.Line.the-variants.{OutOfForm, Makes}
 use Rattle.period_file.specs.Numbers.{signedOf, numberOf}
 use Rattle.period_file.specs.Fields.{startsWith, fieldCount, numberAt, additionalAt}
 
@@ -21,22 +24,22 @@ inForm ok line = cond ok line OutOfForm
 
 -- "take", "tolerance": one number; "only take may have a minus"
 unfoldable pub takeLine : List ℕ → Line
-takeLine value = inForm (signedOf value .ok) (Take (signedOf value .value))
+takeLine value = inForm (signedOf value .ok) (Makes (Set (GroupTake (signedOf value .value))))
 
 unfoldable pub toleranceLine : List ℕ → Line
-toleranceLine value = inForm (numberOf value .ok) (Tolerance (numberOf value .value))
+toleranceLine value = inForm (numberOf value .ok) (Makes (Set (Tolerance (numberOf value .value))))
 
 -- "weight=class,thousandths"
 unfoldable pub weightLine : List ℕ → Line
 weightLine value =
     inForm (eqb (fieldCount value) 2 && numberAt 0 value .ok && numberAt 1 value .ok)
-    (Weight (numberAt 0 value .value) (numberAt 1 value .value))
+    (Makes (Set (Weight (numberAt 0 value .value) (numberAt 1 value .value))))
 
 -- "shape=category,Wh"
 unfoldable pub shapeLine : List ℕ → Line
 shapeLine value =
     inForm (eqb (fieldCount value) 2 && numberAt 0 value .ok && numberAt 1 value .ok)
-    (Shape (numberAt 0 value .value) (numberAt 1 value .value))
+    (Makes (Set (Shape (numberAt 0 value .value) (numberAt 1 value .value))))
 
 -- "meter=MPAN,segment,direction,status,base,additional or -,category,LLF"
 unfoldable pub meterLine : List ℕ → Line
@@ -51,7 +54,7 @@ meterLine value =
     && additionalAt 5 value .ok
     && numberAt 6 value .ok
     && numberAt 7 value .ok)
-    (Meter (numberAt 0 value .value)
+    (Makes (Register (numberAt 0 value .value)
     (record {
       segment = numberAt 1 value .value;
       direction = numberAt 2 value .value;
@@ -61,7 +64,7 @@ meterLine value =
       additional = additionalAt 5 value .unit;
       category = numberAt 6 value .value;
       llf = numberAt 7 value .value;
-    }))
+    })))
 
 -- "reading=MPAN,issue,quality,Wh"
 unfoldable pub readingLine : List ℕ → Line
@@ -72,12 +75,12 @@ readingLine value =
     && numberAt 1 value .ok
     && numberAt 2 value .ok
     && numberAt 3 value .ok)
-    (Reading (numberAt 0 value .value)
+    (Makes (Record (numberAt 0 value .value)
     (record {
       issue = numberAt 1 value .value;
       quality = numberAt 2 value .value;
       consumption = numberAt 3 value .value;
-    }))
+    })))
 
 -- "key=": the bytes of take=, tolerance=, weight=, shape=, meter= and reading=
 abbrev pub takeKey : List ℕ
@@ -117,15 +120,22 @@ lineMost = 80
 unfoldable pub lineOf : List ℕ → Line
 lineOf line = inForm (leb (length line) lineMost) (keyedLine line)
 
--- "take, tolerance (each at most once), weight, shape, meter, reading, in that order of kinds"; 0 for no line
+-- "take, tolerance (each at most once), weight, shape, meter, reading, in that order of kinds": the place of a line's kind in the order, by its call
+abbrev pub settingKind : Setting → ℕ
+settingKind (GroupTake wh) = 1
+settingKind (Tolerance g) = 2
+settingKind (Weight class thousandths) = 3
+settingKind (Shape category wh) = 4
+
+abbrev pub callKind : Call → ℕ
+callKind (Set x) = settingKind x
+callKind (Register mpan r) = 5
+callKind (Record mpan r) = 6
+
+-- 0 for a line out of form
 abbrev pub kindOf : Line → ℕ
 kindOf OutOfForm = 0
-kindOf (Take wh) = 1
-kindOf (Tolerance g) = 2
-kindOf (Weight class thousandths) = 3
-kindOf (Shape category wh) = 4
-kindOf (Meter mpan r) = 5
-kindOf (Reading mpan r) = 6
+kindOf (Makes c) = callKind c
 
 -- whether a kind may stand after the last one: a later kind, or the same again if it may stand more than once
 abbrev pub kindFollows : ℕ → ℕ → Bool
@@ -135,23 +145,10 @@ kindFollows last kind = ltb last kind || (eqb last kind && ltb 2 kind)
 unfoldable pub lineAfter : ℕ → List ℕ → Line
 lineAfter last line = inForm (kindFollows last (kindOf (lineOf line))) (lineOf line)
 
--- "makes the call of each"; a line out of form makes none
-unfoldable pub callsOf : Line → List Call
-callsOf OutOfForm = []
-callsOf (Take wh) = setting (groupTake wh) ∷ []
-callsOf (Tolerance g) = setting (tolerance g) ∷ []
-callsOf (Weight class thousandths) = setting (weight class thousandths) ∷ []
-callsOf (Shape category wh) = setting (shape category wh) ∷ []
-callsOf (Meter mpan r) = register mpan r ∷ []
-callsOf (Reading mpan r) = reading mpan r ∷ []
-
--- what the call of a line leaves
-unfoldable pub callsOutcome : Book → List Call → Outcome
-callsOutcome b [] = record { number = accepted; book = b }
-callsOutcome b (c ∷ calls) = callOutcome b c
-
-abbrev pub lineOutcome : Book → Line → Outcome
-lineOutcome b line = callsOutcome b (callsOf line)
+-- "makes the call of each": what the call of a line leaves; a line out of form makes none
+unfoldable pub lineOutcome : Book → Line → Outcome
+lineOutcome b OutOfForm = record { number = accepted; book = b }
+lineOutcome b (Makes c) = callOutcome b c
 
 -- what taking a line gives, after lines of which the last had that kind: its kind, and what its call leaves
 pub record LineTaken (b : Book) (last : ℕ) (line : List ℕ) (taken : Taken) (rowsAfter : List ℕ) : Type 0 where

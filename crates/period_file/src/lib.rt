@@ -1,8 +1,8 @@
 // The lines of a period file: whether a line is in form, which kind it is, and which call it makes.
 use book::Answer;
-use words::Registration;
+use calls::Call;
 
-pub mod calls;
+pub mod answer;
 pub mod fields;
 pub mod lines;
 pub mod numbers;
@@ -32,27 +32,10 @@ pub struct Found {
     pub at: usize,
 }
 
-// A line of a period file.
+// A line of a period file: out of form, or the call that it makes.
 pub enum Line {
     OutOfForm,
-    Take(i64),
-    Tolerance(u64),
-    Weight {
-        class: u64,
-        thousandths: u64,
-    },
-    Shape {
-        category: u64,
-        wh: u64,
-    },
-    Meter {
-        mpan: u64,
-        registration: Registration,
-    },
-    Reading {
-        mpan: u64,
-        reading: words::Reading,
-    },
+    Makes(Call),
 }
 
 // A line that was read and its call: the kind, 0 if the line is out of form, and what the call answered.

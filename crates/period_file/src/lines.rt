@@ -7,10 +7,13 @@ use crate::fields::number_at;
 use crate::fields::starts_with;
 use crate::numbers::number;
 use crate::numbers::signed;
+use book::Setting;
+use calls::Call;
+use words::Reading;
 use words::Registration;
 ghost use mathlib.Core.Path.{_≡_};
 ghost use Rattle.period_file.specs.Keys.{keyOr, Means};
-ghost use Rattle.period_file.specs.Lines.{inForm, takeLine, toleranceLine, weightLine, shapeLine, meterLine, readingLine, keyedLine, kindOf, kindFollows, lineAfter};
+ghost use Rattle.period_file.specs.Lines.{inForm, takeLine, toleranceLine, weightLine, shapeLine, meterLine, readingLine, keyedLine, settingKind, callKind, kindOf, kindFollows, lineAfter};
 
 // The bytes of a line, at most, without its line feed.
 pub const LINE_MAX: usize = 80;
@@ -29,14 +32,14 @@ fn take_line(value: &[u8]) -> Line
     ensures { λ r. ⌜ r ≡ takeLine (now (value .entry)) ⌝ }
 {
     let wh = signed(value);
-    in_form(wh.ok, Line::Take(wh.value))
+    in_form(wh.ok, Line::Makes(Call::Set(Setting::GroupTake(wh.value))))
 }
 
 fn tolerance_line(value: &[u8]) -> Line
     ensures { λ r. ⌜ r ≡ toleranceLine (now (value .entry)) ⌝ }
 {
     let g = number(value);
-    in_form(g.ok, Line::Tolerance(g.value))
+    in_form(g.ok, Line::Makes(Call::Set(Setting::Tolerance(g.value))))
 }
 
 fn weight_line(value: &[u8]) -> Line
@@ -46,10 +49,10 @@ fn weight_line(value: &[u8]) -> Line
     let thousandths = number_at(value, 1);
     in_form(
         (field_count(value) == 2) & class.ok & thousandths.ok,
-        Line::Weight {
+        Line::Makes(Call::Set(Setting::Weight {
             class: class.value,
             thousandths: thousandths.value,
-        },
+        })),
     )
 }
 
@@ -60,10 +63,10 @@ fn shape_line(value: &[u8]) -> Line
     let wh = number_at(value, 1);
     in_form(
         (field_count(value) == 2) & category.ok & wh.ok,
-        Line::Shape {
+        Line::Makes(Call::Set(Setting::Shape {
             category: category.value,
             wh: wh.value,
-        },
+        })),
     )
 }
 
@@ -99,10 +102,10 @@ fn meter_line(value: &[u8]) -> Line
         & llf.ok;
     in_form(
         all,
-        Line::Meter {
+        Line::Makes(Call::Register {
             mpan: mpan.value,
             registration,
-        },
+        }),
     )
 }
 
@@ -113,7 +116,7 @@ fn reading_line(value: &[u8]) -> Line
     let issue = number_at(value, 1);
     let quality = number_at(value, 2);
     let consumption = number_at(value, 3);
-    let reading = words::Reading {
+    let reading = Reading {
         issue: issue.value,
         quality: quality.value,
         consumption: consumption.value,
@@ -121,10 +124,10 @@ fn reading_line(value: &[u8]) -> Line
     let all = (field_count(value) == 4) & mpan.ok & issue.ok & quality.ok & consumption.ok;
     in_form(
         all,
-        Line::Reading {
+        Line::Makes(Call::Record {
             mpan: mpan.value,
             reading,
-        },
+        }),
     )
 }
 
@@ -171,27 +174,45 @@ fn keyed_line(line: &[u8]) -> Line
     }
 }
 
+// The place in the order, from 1, of a line that sets this.
+fn setting_kind(setting: Setting) -> u64
+    ensures { λ r. ⌜ r ≡ settingKind setting ⌝ }
+{
+    match setting {
+        Setting::GroupTake(_) => 1,
+        Setting::Tolerance(_) => 2,
+        Setting::Weight {
+            class: _,
+            thousandths: _,
+        } => 3,
+        Setting::Shape { category: _, wh: _ } => 4,
+    }
+}
+
+// The place in the order of a line that makes this call.
+fn call_kind(call: Call) -> u64
+    ensures { λ r. ⌜ r ≡ callKind call ⌝ }
+{
+    match call {
+        Call::Set(setting) => setting_kind(setting),
+        Call::Register {
+            mpan: _,
+            registration: _,
+        } => 5,
+        Call::Record {
+            mpan: _,
+            reading: _,
+        } => 6,
+    }
+}
+
 // The place of a line's kind in the order, from 1; 0 for a line out of form.
 pub fn kind_of(line: Line) -> u64
     ensures { λ r. ⌜ r ≡ kindOf line ⌝ }
 {
     match line {
         Line::OutOfForm => 0,
-        Line::Take(_) => 1,
-        Line::Tolerance(_) => 2,
-        Line::Weight {
-            class: _,
-            thousandths: _,
-        } => 3,
-        Line::Shape { category: _, wh: _ } => 4,
-        Line::Meter {
-            mpan: _,
-            registration: _,
-        } => 5,
-        Line::Reading {
-            mpan: _,
-            reading: _,
-        } => 6,
+        Line::Makes(call) => call_kind(call),
     }
 }
 

@@ -4,7 +4,7 @@ use mathlib.Core.Bool.{cond}
 use mathlib.Core.List.{List, [], _∷_, _++_}
 use lib.Dec.{eqb}
 use lib.IntN.{ℤ, natAbs}
-use Rattle.book.specs.Causes.{accepted}
+use Rattle.refusals.specs.Causes.{accepted}
 use Rattle.allocation.specs.declared.Allocated.{Allocated}
 use Rattle.report.specs.Numbers.{decimal, signedDecimal}
 
@@ -80,7 +80,7 @@ figureLines a =
     ++ (signedLine unallocatedKey (a .unallocated)
     ++ signedLine weightedKey (a .weighted))
 
--- "a line volume=unit,Wh .. for each unit not at 0"
+-- "a line volume=unit,Wh, in unit order, for each unit not at 0"
 unfoldable pub volumeLine : ℕ → ℤ → List ℕ
 volumeLine unit wh =
     cond (eqb (natAbs wh) 0) []

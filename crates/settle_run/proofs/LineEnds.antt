@@ -5,12 +5,13 @@ use mathlib.Core.List.{List}
 use native.Mathlib.Omega.{arith}
 use borrow.Author.Tests.{eq-eqb, ne-eqb}
 use lib.ListN.{length, take}
-use Rattle.book.specs.Book.{Book}
-use Rattle.book.specs.Contracts.{lent}
+use Rattle.book.specs.declared.Setting.the-variants.{Shape, Weight, Tolerance, GroupTake}
+use Rattle.book.specs.Book.{Book, lent}
+use Rattle.calls.specs.declared.Call.the-variants.{Register, Record, Set}
 use Rattle.period_file.specs.declared.Taken.{Taken}
 use Rattle.period_file.specs.declared.Line.{Line}
-use Rattle.period_file.specs.declared.Line.the-variants.{OutOfForm, Take, Tolerance, Weight, Shape, Meter, Reading}
-use Rattle.period_file.specs.Lines.{lineMost, kindOf, callsOf, callsOutcome, lineOutcome, LineTaken}
+use Rattle.period_file.specs.declared.Line.the-variants.{OutOfForm, Makes}
+use Rattle.period_file.specs.Lines.{lineMost, kindOf, lineOutcome, LineTaken}
 use Rattle.report.specs.Lines.{refusedLine}
 use Rattle.report.specs.Appended.{Printed}
 use Rattle.settle_run.specs.declared.State.{State}
@@ -20,14 +21,14 @@ use Rattle.settle_run.proofs.Steps.{printed-nothing}
 
 -- a line without a kind makes no call
 no-call : (b : Book) (line : Line) → kindOf line ≡ 0 → lineOutcome b line .book ≡ b
-unfolding callsOf callsOutcome
+unfolding lineOutcome
 no-call b OutOfForm h = refl
-no-call b (Take wh) h = absurd (omega arith)
-no-call b (Tolerance g) h = absurd (omega arith)
-no-call b (Weight class thousandths) h = absurd (omega arith)
-no-call b (Shape category wh) h = absurd (omega arith)
-no-call b (Meter mpan r) h = absurd (omega arith)
-no-call b (Reading mpan r) h = absurd (omega arith)
+no-call b (Makes (Set (GroupTake wh))) h = absurd (omega arith)
+no-call b (Makes (Set (Tolerance g))) h = absurd (omega arith)
+no-call b (Makes (Set (Weight class thousandths))) h = absurd (omega arith)
+no-call b (Makes (Set (Shape category wh))) h = absurd (omega arith)
+no-call b (Makes (Register mpan r)) h = absurd (omega arith)
+no-call b (Makes (Record mpan r)) h = absurd (omega arith)
 
 module _ (s : State) (line rows : List ℕ) (short : s .length ≤ lineMost) (taken : Taken) (rowsAfter : List ℕ)
     (t : LineTaken (lent (s .settings) rows) (s .«last_kind») (take (s .length) line) taken rowsAfter) where

@@ -3,7 +3,7 @@ use Prim.Native.Nat.{ℕ, _+_, _≤_}
 use mathlib.Core.Path.{_≡_}
 use mathlib.Core.List.{List}
 use lib.ListN.{length, take}
-use Rattle.book.specs.Contracts.{lent}
+use Rattle.book.specs.Book.{lent}
 use Rattle.period_file.specs.Lines.{lineMost}
 use Rattle.report.specs.Lines.{badLine}
 use Rattle.report.specs.Appended.{Printed}

@@ -5,10 +5,10 @@ use mathlib.Core.List.{List, [], _∷_, _++_}
 use lib.Dec.{ltb, eqb}
 use lib.IntN.{pos}
 use lib.ListN.{length, replicate}
+use Rattle.refusals.specs.Causes.{accepted}
 use Rattle.book.specs.Book.{Book, freshBook}
-use Rattle.book.specs.Causes.{accepted}
-use Rattle.book.specs.Calls.{Outcome}
-use Rattle.allocation.specs.Correction.{units}
+use Rattle.calls.specs.Calls.{Outcome}
+use Rattle.cells.specs.Cells.{units}
 use Rattle.allocation.specs.Allocate.{Allocation, allocateCall}
 use Rattle.period_file.specs.declared.Line.{Line}
 use Rattle.period_file.specs.Lines.{lineMost, kindOf, lineAfter, lineOutcome}
@@ -73,7 +73,7 @@ lineTaken w line = cond (eqb (kindOf line) 0) (outOfForm w) (callMade w (kindOf 
 unfoldable pub endLine : Work → Step
 endLine w = lineTaken w (lineAfter (w .lastKind) (w .gathered))
 
--- "lines .. of at most 80 bytes before the line feed": a byte more is out of form, whatever follows it
+-- "lines [..] of at most 80 bytes before the line feed": a byte more is out of form, whatever follows it
 abbrev pub lineFeedByte : ℕ
 lineFeedByte = 10
 
@@ -94,7 +94,7 @@ unfoldable pub takeBytes : Work → List ℕ → Step
 takeBytes w [] = quiet w
 takeBytes w (byte ∷ bytes) = after (takeByte w byte .text) (takeBytes (takeByte w byte .work) bytes)
 
--- "reads .. from standard input": the bytes that one read gives; a read that gives none is the end of the input
+-- "reads [..] from standard input": the bytes that one read gives; a read that gives none is the end of the input
 unfoldable pub takeRead : Work → List ℕ → Step
 takeRead w [] = quiet (withPhase inputEnded w)
 takeRead w (byte ∷ bytes) = takeBytes w (byte ∷ bytes)

@@ -1,5 +1,5 @@
 // The body of the program `settle`: it reads a period file from standard input line by line, makes the call of each line, and
-// prints what document 01 says. What a line means is in `period_file`, and what a call does is in `book` and `allocation`.
+// prints what document 01 says. What a line means is in `period_file`, and what a call does is in `calls` and `allocation`.
 mod input;
 mod lines;
 mod output;

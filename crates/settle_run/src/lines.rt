@@ -1,8 +1,8 @@
 // Lines gathered from the bytes that reads give, whatever the sizes of the reads, and what is printed of them.
 use crate::State;
 use allocation::allocate::allocate;
-use book::calls::ACCEPTED;
-use period_file::calls::answer_line;
+use period_file::answer::answer_line;
+use refusals::ACCEPTED;
 use report::lines::put_allocation;
 use report::lines::put_bad_line;
 use report::lines::put_refused;

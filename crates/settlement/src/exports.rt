@@ -1,17 +1,22 @@
 // The entry points for C: the same functions under one prefix, with the same contracts. A slice is a pointer and a length.
 use allocation::AllocationAnswer;
 use book::Answer;
+use book::Setting;
 use book::Settings;
+use calls::Call;
+use calls::make::make_call;
+use calls::make::set;
 use words::Reading;
 use words::Registration;
 ghost use mathlib.Core.Path.{_≡_};
+ghost use Rattle.book.specs.declared.Setting.the-variants.{Shape, Weight, Tolerance, GroupTake};
 ghost use Rattle.book.specs.Settings.{freshSettings};
-ghost use Rattle.book.specs.Calls.{shape, weight, tolerance, groupTake, settingCall, registerCall, readingCall};
-ghost use Rattle.book.specs.Contracts.{lent, Gives};
-ghost use Rattle.allocation.specs.Allocate.{allocateCall};
-ghost use Rattle.allocation.specs.Contracts.{AllocationGives};
-ghost use Rattle.settlement.specs.Listed.{listCall, ListGives};
-ghost use Rattle.settlement.specs.Settle.{SettleGives};
+ghost use Rattle.book.specs.Book.{lent};
+ghost use Rattle.calls.specs.declared.Call.the-variants.{Register, Record, Set};
+ghost use Rattle.calls.specs.Calls.{callOutcome, Gives};
+ghost use Rattle.allocation.specs.Allocate.{allocateCall, AllocationGives};
+ghost use Rattle.listing.specs.Listed.{listCall, ListGives};
+ghost use Rattle.listing.specs.Settle.{SettleGives};
 
 #[no_mangle]
 pub extern "C" fn cepnhoy_fresh() -> Settings
@@ -27,9 +32,9 @@ pub extern "C" fn cepnhoy_register(
     mpan: u64,
     registration: Registration,
 ) -> Answer
-    ensures { λ r. ⌜ Gives (registerCall (lent settings (now (rows .entry))) mpan registration) r (now (rows .exit)) ⌝ }
+    ensures { λ r. ⌜ Gives (callOutcome (lent settings (now (rows .entry))) (Register mpan registration)) r (now (rows .exit)) ⌝ }
 {
-    book::calls::register(settings, rows, mpan, registration)
+    make_call(settings, rows, Call::Register { mpan, registration })
 }
 
 #[no_mangle]
@@ -39,9 +44,9 @@ pub extern "C" fn cepnhoy_record_reading(
     mpan: u64,
     reading: Reading,
 ) -> Answer
-    ensures { λ r. ⌜ Gives (readingCall (lent settings (now (rows .entry))) mpan reading) r (now (rows .exit)) ⌝ }
+    ensures { λ r. ⌜ Gives (callOutcome (lent settings (now (rows .entry))) (Record mpan reading)) r (now (rows .exit)) ⌝ }
 {
-    book::calls::record_reading(settings, rows, mpan, reading)
+    make_call(settings, rows, Call::Record { mpan, reading })
 }
 
 #[no_mangle]
@@ -51,9 +56,9 @@ pub extern "C" fn cepnhoy_set_shape(
     category: u64,
     wh: u64,
 ) -> Answer
-    ensures { λ r. ⌜ Gives (settingCall (lent settings (now (rows .entry))) (shape category wh)) r (now (rows .entry)) ⌝ }
+    ensures { λ r. ⌜ Gives (callOutcome (lent settings (now (rows .entry))) (Set (Shape category wh))) r (now (rows .entry)) ⌝ }
 {
-    book::calls::set_shape(settings, rows, category, wh)
+    set(settings, rows, Setting::Shape { category, wh })
 }
 
 #[no_mangle]
@@ -63,23 +68,23 @@ pub extern "C" fn cepnhoy_set_weight(
     class: u64,
     thousandths: u64,
 ) -> Answer
-    ensures { λ r. ⌜ Gives (settingCall (lent settings (now (rows .entry))) (weight class thousandths)) r (now (rows .entry)) ⌝ }
+    ensures { λ r. ⌜ Gives (callOutcome (lent settings (now (rows .entry))) (Set (Weight class thousandths))) r (now (rows .entry)) ⌝ }
 {
-    book::calls::set_weight(settings, rows, class, thousandths)
+    set(settings, rows, Setting::Weight { class, thousandths })
 }
 
 #[no_mangle]
 pub extern "C" fn cepnhoy_set_tolerance(settings: Settings, rows: &[u64], g: u64) -> Answer
-    ensures { λ r. ⌜ Gives (settingCall (lent settings (now (rows .entry))) (tolerance g)) r (now (rows .entry)) ⌝ }
+    ensures { λ r. ⌜ Gives (callOutcome (lent settings (now (rows .entry))) (Set (Tolerance g))) r (now (rows .entry)) ⌝ }
 {
-    book::calls::set_tolerance(settings, rows, g)
+    set(settings, rows, Setting::Tolerance(g))
 }
 
 #[no_mangle]
 pub extern "C" fn cepnhoy_set_take(settings: Settings, rows: &[u64], wh: i64) -> Answer
-    ensures { λ r. ⌜ Gives (settingCall (lent settings (now (rows .entry))) (groupTake wh)) r (now (rows .entry)) ⌝ }
+    ensures { λ r. ⌜ Gives (callOutcome (lent settings (now (rows .entry))) (Set (GroupTake wh))) r (now (rows .entry)) ⌝ }
 {
-    book::calls::set_take(settings, rows, wh)
+    set(settings, rows, Setting::GroupTake(wh))
 }
 
 #[no_mangle]
@@ -102,7 +107,7 @@ pub extern "C" fn cepnhoy_make_calls(
 ) -> Answer
     ensures { λ r. ⌜ ListGives (listCall (lent settings (now (rows .entry))) (now (calls .entry)) (now (numbers .entry))) r (now (rows .exit)) (now (numbers .exit)) ⌝ }
 {
-    crate::list::make_calls(settings, rows, calls, numbers)
+    listing::list::make_calls(settings, rows, calls, numbers)
 }
 
 #[no_mangle]
@@ -114,5 +119,5 @@ pub extern "C" fn cepnhoy_settle_list(
 ) -> AllocationAnswer
     ensures { λ r. ⌜ SettleGives (now (rows .entry)) (now (calls .entry)) (now (numbers .entry)) (now (volumes .entry)) r (now (rows .exit)) (now (numbers .exit)) (now (volumes .exit)) ⌝ }
 {
-    crate::half_hour::settle_list(rows, calls, numbers, volumes)
+    listing::half_hour::settle_list(rows, calls, numbers, volumes)
 }

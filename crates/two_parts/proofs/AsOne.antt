@@ -6,7 +6,7 @@ use mathlib.Core.List.{List}
 use native.Mathlib.Omega.{arith}
 use lib.ListN.{length}
 use Rattle.book.specs.Rows.{capacity, rowsOf, isKnown}
-use Rattle.book.specs.Contracts.{RowsReady}
+use Rattle.book.specs.Helpers.{RowsReady}
 use Rattle.book.proofs.Rising.{formed-none}
 use Rattle.book.proofs.RowsOf.{length-rows}
 use Rattle.book.proofs.Written.{written-same, length-written, rows-of-written}

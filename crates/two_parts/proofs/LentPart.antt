@@ -7,7 +7,7 @@ use borrow.Rule.Slice.PartMut.{midOf, putMid, postOf, same-len-mid}
 use lib.ListN.{length, take, drop, length-take, length-drop, take-append-drop}
 use lib.Seq.{length-take-le, drop-drop, drop-at, drop-append-le}
 use Rattle.book.specs.Rows.{Row, capacity, rowsOf}
-use Rattle.book.specs.Contracts.{row}
+use Rattle.book.specs.Helpers.{row}
 use Rattle.book.proofs.WellFormed.{room}
 
 -- the first rows of a slice are those of a longer one

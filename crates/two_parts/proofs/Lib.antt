@@ -6,10 +6,10 @@ pub mod AsOne
 pub mod MergedBack
 pub mod RowPut
 pub mod Merging
--- calls on them
+-- storing in them
 pub mod KnownAfter
 pub mod LentPart
-pub mod Accepted
-pub mod LaterCall
-pub mod RegisterApart
-pub mod ReadingApart
+pub mod StoredApart
+pub mod LaterStored
+pub mod RegisteredApart
+pub mod RecordedApart

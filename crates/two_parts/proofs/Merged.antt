@@ -6,13 +6,15 @@ use mathlib.Core.List.{List, [], _∷_}
 use native.Mathlib.Nat.{add-zero}
 use native.Mathlib.Omega.{arith}
 use lib.ListN.{length}
-use Rattle.book.specs.Rows.{Row, rowsFormed, isKnown, issueHeld, withRegistration, withReading}
+use Rattle.book.specs.Rows.{Row, rowsFormed, isKnown, withRegistration, withReading}
+use Rattle.book.specs.Helpers.{heldIn}
 use Rattle.book.proofs.Rising.{formed-none, formed-first, first-formed}
 use Rattle.book.proofs.PlaceOf.{by-mpan, known-next, known-here, none-above, first-above}
+use Rattle.book.proofs.HeldIn.{held-next, held-here, held-none}
 use Rattle.book.proofs.WithRegistration as registration
 use Rattle.book.proofs.WithReading as reading
 use Rattle.two_parts.specs.TwoParts.{withRow, merged}
-use Rattle.two_parts.proofs.WithRow.{by-meter, length-row, known-row, issue-other, issue-own, issue-none, registered-other, registered-own, registered-new, read-other, read-own, read-unknown, row-formed}
+use Rattle.two_parts.proofs.WithRow.{by-meter, length-row, known-row, held-other, held-own, registered-other, registered-own, registered-new, read-other, read-own, read-unknown, row-formed}
 
 pub length-merged : (A B : List Row) → length (merged A B) ≡ length A + length B
 unfolding merged
@@ -43,20 +45,21 @@ elsewhere m r rows h =
     let other : r .mpan ≡ m → ⊥ = λ e. true≢false (sym (known-here r rows m e) ∙ h) in
     record { first-other = other; rest-unknown = rw (known-next r rows m other) at h }
 
-pub issue-merged-first : (m : ℕ) (A B : List Row) → isKnown m B ≡ false → issueHeld m (merged A B) ≡ issueHeld m A
+-- what a meter holds
+pub held-merged-first : (m : ℕ) (A B : List Row) → isKnown m B ≡ false → heldIn m (merged A B) ≡ heldIn m A
 unfolding merged
-issue-merged-first m A [] h = refl
-issue-merged-first m A (r ∷ B) h =
+held-merged-first m A [] h = refl
+held-merged-first m A (r ∷ B) h =
     let e = elsewhere m r B h in
-    issue-other m r (merged A B) (e .first-other) ∙ issue-merged-first m A B (e .rest-unknown)
+    held-other m r (merged A B) (e .first-other) ∙ held-merged-first m A B (e .rest-unknown)
 
-pub issue-merged-later : (m : ℕ) (A B : List Row) → isKnown m A ≡ false → issueHeld m (merged A B) ≡ issueHeld m B
-unfolding merged issueHeld
-issue-merged-later m A [] h = issue-none m A h
-issue-merged-later m A (r ∷ B) h =
+pub held-merged-later : (m : ℕ) (A B : List Row) → isKnown m A ≡ false → heldIn m (merged A B) ≡ heldIn m B
+unfolding merged isKnown
+held-merged-later m A [] h = held-none m A h ∙ sym (held-none m [] refl)
+held-merged-later m A (r ∷ B) h =
     by-meter r m
-    (λ b. issue-own m r (merged A B) b ∙ sym (reading.issue-here r B m b))
-    (λ b. issue-other m r (merged A B) b ∙ issue-merged-later m A B h ∙ sym (reading.issue-next r B m b))
+    (λ b. held-own m r (merged A B) b ∙ sym (held-here r B m b))
+    (λ b. held-other m r (merged A B) b ∙ held-merged-later m A B h ∙ sym (held-next r B m b))
 
 -- a registration stored in the first part, or in the later one
 

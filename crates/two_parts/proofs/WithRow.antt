@@ -7,10 +7,11 @@ use native.Mathlib.Omega.{arith}
 use borrow.Author.Tests.{lt-ltb, le-ltb}
 use lib.Dec.{eqb}
 use lib.ListN.{length}
-use Rattle.words.specs.Reading.{issueOf}
-use Rattle.book.specs.Rows.{Row, rowsFormed, isKnown, issueHeld, newRow, withRegistration, withReading}
+use Rattle.book.specs.Rows.{Row, rowsFormed, isKnown, newRow, withRegistration, withReading}
+use Rattle.book.specs.Helpers.{rowHeld, heldIn}
 use Rattle.book.proofs.Rising.{Words, formed-none, formed-first, first-formed}
 use Rattle.book.proofs.PlaceOf.{by-mpan, known-next, known-here}
+use Rattle.book.proofs.HeldIn.{held-next, held-here}
 use Rattle.book.proofs.WithRegistration as registration
 use Rattle.book.proofs.WithReading as reading
 use Rattle.two_parts.specs.TwoParts.{withRow}
@@ -55,29 +56,22 @@ known-row m r (x ∷ rows) =
     (λ b. rw (row-next r x rows b, known-row m r rows) (either-way (eqb (x .mpan) m) (eqb (r .mpan) m) (isKnown m rows)))
     (λ b. rw (row-here r x rows b))
 
-pub issue-other : (m : ℕ) (r : Row) (rows : List Row) → (r .mpan ≡ m → ⊥) → issueHeld m (withRow r rows) ≡ issueHeld m rows
-unfolding withRow issueHeld
-issue-other m r [] h = reading.issue-next r [] m h
-issue-other m r (x ∷ rows) h =
+-- nor does what it holds
+pub held-other : (m : ℕ) (r : Row) (rows : List Row) → (r .mpan ≡ m → ⊥) → heldIn m (withRow r rows) ≡ heldIn m rows
+unfolding withRow heldIn
+held-other m r [] h = held-next r [] m h
+held-other m r (x ∷ rows) h =
     by-order x (r .mpan)
-    (λ b. rw (row-next r x rows b, issue-other m r rows h))
-    (λ b. rw (row-here r x rows b) (reading.issue-next r (x ∷ rows) m h))
+    (λ b. rw (row-next r x rows b, held-other m r rows h))
+    (λ b. rw (row-here r x rows b) (held-next r (x ∷ rows) m h))
 
-pub issue-own : (m : ℕ) (r : Row) (rows : List Row) → r .mpan ≡ m → issueHeld m (withRow r rows) ≡ issueOf (r .reading)
+pub held-own : (m : ℕ) (r : Row) (rows : List Row) → r .mpan ≡ m → heldIn m (withRow r rows) ≡ rowHeld (r .registration) (r .reading)
 unfolding withRow
-issue-own m r [] h = reading.issue-here r [] m h
-issue-own m r (x ∷ rows) h =
+held-own m r [] h = held-here r [] m h
+held-own m r (x ∷ rows) h =
     by-order x (r .mpan)
-    (λ b. rw (row-next r x rows b, reading.issue-next x (withRow r rows) m (λ e. omega arith)) (issue-own m r rows h))
-    (λ b. rw (row-here r x rows b) (reading.issue-here r (x ∷ rows) m h))
-
-pub issue-none : (m : ℕ) (rows : List Row) → isKnown m rows ≡ false → issueHeld m rows ≡ 0
-unfolding issueHeld
-issue-none m [] h = refl
-issue-none m (x ∷ rows) h =
-    by-meter x m
-    (λ b. absurd (true≢false (sym (known-here x rows m b) ∙ h)))
-    (λ b. reading.issue-next x rows m b ∙ issue-none m rows (rw (known-next x rows m b) at h))
+    (λ b. rw (row-next r x rows b, held-next x (withRow r rows) m (λ e. omega arith)) (held-own m r rows h))
+    (λ b. rw (row-here r x rows b) (held-here r (x ∷ rows) m h))
 
 -- a registration of another meter is stored the same before a row is put in its place and afterwards
 

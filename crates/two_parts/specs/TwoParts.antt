@@ -6,10 +6,9 @@ use mathlib.Core.Bool.{true, false, cond}
 use mathlib.Core.List.{List, [], _∷_}
 use lib.Dec.{ltb}
 use lib.ListN.{drop}
+use Rattle.book.specs.declared.Stored.{Stored}
 use Rattle.book.specs.Rows.{Row, capacity, rowsOf, rowsFormed, isKnown, written}
-use Rattle.book.specs.Book.{Book}
-use Rattle.book.specs.Calls.{Outcome}
-use Rattle.book.specs.Contracts.{Stores}
+use Rattle.book.specs.Helpers.{Storing, Stores}
 
 -- a row put in its place among rows
 unfoldable pub withRow : Row → List Row → List Row
@@ -33,17 +32,25 @@ asOne first later words = written (merged (rowsOf first words) (laterRows first 
 abbrev pub laterMost : ℕ
 laterMost = 512
 
--- two parts that a call may look for a meter in, and write: both rise, and no meter stands in both
+-- two parts in which a meter may be looked for, and stored: both rise, and no meter stands in both
 pub record PartsReady (first later : ℕ) (words : List ℕ) : Type 0 where
   pub within-capacity : first + later ≤ capacity words
   pub first-formed : rowsFormed 0 (rowsOf first words) ≡ true
   pub later-formed : rowsFormed 0 (laterRows first later words) ≡ true
   pub apart : (m : ℕ) → isKnown m (laterRows first later words) ≡ true → isKnown m (rowsOf first words) ≡ false
 
--- what a call on two parts leaves: two parts again, and merged they are what the call leaves on the book that they stand for
-pub record StoresApart (call : Book → Outcome) (first later : ℕ) (words : List ℕ) (number laterAfter : ℕ) (wordsAfter : List ℕ) : Type 0 where
-  pub ready : PartsReady first laterAfter wordsAfter
-  pub stores : Stores call (first + later) (asOne first later words) number (first + laterAfter) (asOne first laterAfter wordsAfter)
+-- what storing in the first part tells, with the rows of the second counted
+abbrev pub storedFirst : ℕ → Stored → Stored
+storedFirst later stored = record { number = stored .number; meters = later; before = stored .before; after = stored .after }
+
+-- what storing in two parts tells, with the rows of the first counted too
+abbrev pub storedInBoth : ℕ → Stored → Stored
+storedInBoth first stored = record { number = stored .number; meters = first + stored .meters; before = stored .before; after = stored .after }
+
+-- what storing in two parts leaves: two parts again, and merged they are what it leaves in the rows that they stand for
+pub record StoresApart (m : ℕ) (store : List Row → Storing) (first later : ℕ) (words : List ℕ) (stored : Stored) (wordsAfter : List ℕ) : Type 0 where
+  pub ready : PartsReady first (stored .meters) wordsAfter
+  pub stores : Stores m store (first + later) (asOne first later words) (storedInBoth first stored) (asOne first (stored .meters) wordsAfter)
 
 -- what making room in the second part leaves, for rows that are `meters` in both: the same rows merged, and a second part that has room for one more
 pub record HasRoom (first meters : ℕ) (words : List ℕ) (firstAfter : ℕ) (wordsAfter : List ℕ) : Type 0 where

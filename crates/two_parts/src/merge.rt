@@ -5,7 +5,7 @@ ghost use mathlib.Core.List.{_++_};
 ghost use Prim.Native.Nat.{_+_, _*_, _-_, _≤_};
 ghost use lib.ListN.{length, take, drop};
 ghost use Rattle.book.specs.Rows.{rowsOf};
-ghost use Rattle.book.specs.Contracts.{row};
+ghost use Rattle.book.specs.Helpers.{row};
 ghost use Rattle.two_parts.specs.TwoParts.{laterRows, asOne, laterMost, PartsReady, HasRoom};
 ghost use Rattle.two_parts.specs.Merge.{lastIsFirst, rowPut, LastPlaced};
 

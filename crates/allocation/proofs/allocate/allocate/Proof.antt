@@ -3,8 +3,7 @@ use mathlib.Core.Path.{_≡_, sym, _∙_, ap}
 use mathlib.Core.Bool.{true}
 use borrow.Author.Needs.{needs}
 use borrow.Author.Tests.{not-true, not-false}
-use Rattle.book.specs.Book.{Book, wellFormed}
-use Rattle.book.specs.Contracts.{lent}
+use Rattle.book.specs.Book.{Book, wellFormed, lent}
 use Rattle.allocation.proofs.Ways.{allocate-on-ill-formed, allocate-keeps}
 use Rattle.allocation.proofs.allocate.allocate.Statement.{statement}
 use Rattle.allocation.proofs.allocate.allocate.Tie as tie

@@ -5,7 +5,6 @@ use mathlib.Core.Bool.{true}
 use mathlib.Core.List.{List}
 use borrow.Author.Needs.{needs}
 use borrow.Author.Tests.{eq-eqb, ne-eqb}
-use lib.IntN.{ℤ}
 use lib.ListN.{length}
 use mir.Syntax.{w64}
 use mir.Val.{ofZ, toZ}
@@ -13,11 +12,10 @@ use mir.ValLaws.{toZ-ofZ}
 use Rattle.book.specs.declared.Settings.{Settings}
 use Rattle.book.specs.Limits.{takeFlagSet}
 use Rattle.book.specs.Settings.{takeIsSet}
-use Rattle.allocation.specs.Cells.{countFrom}
-use Rattle.allocation.specs.Correction.{units}
-use Rattle.allocation.specs.Contracts.{tableOf, CorrectionOf}
-use Rattle.allocation.proofs.Steps.{units-worked, gather-arguments, all-units-arguments, take-fits}
-use Rattle.allocation.proofs.Ways.{way-short, way-unset, way-lacks}
+use Rattle.cells.specs.Cells.{countFrom, units}
+use Rattle.cells.specs.Helpers.{tableOf}
+use Rattle.allocation.proofs.Steps.{gather-arguments, all-units-arguments, take-fits, correct-arguments, sums-worked}
+use Rattle.allocation.proofs.Ways.{way-short, way-unset, way-lacks, way-corrected}
 use Rattle.allocation.proofs.allocate.allocate_formed.Statement.{statement}
 use Rattle.allocation.proofs.allocate.allocate_formed.Tie as tie
 
@@ -81,45 +79,30 @@ settings c = start (gathered c) .args .settings
 abbrev rows : tie.After-all-units → List ℕ
 rows c = start (gathered c) .args .rows .now
 
-abbrev slice : tie.After-all-units → List ℤ
-slice c = start (gathered c) .args .volumes .now
-
-abbrev nets : tie.After-all-units → List ℤ
-nets c = c .all-units .last .1 .1 .0
-
-abbrev weighted : tie.After-all-units → List ℤ
-weighted c = c .all-units .last .1 .1 .1 .0
-
--- what the correction starts from is of this book
-figures : (c : tie.After-all-units) → CorrectionOf (settings c) (rows c) (toZ w64 (ofZ w64 (settings c .«take_wh»))) (settings c .tolerance) (nets c) (weighted c) (counts (gathered c)) (slice c)
-figures c =
-    let g = gathered c in
-    let wf = start g .pre in
-    let k = units-worked (settings c) (rows c) wf (g .gather .ensures .cells-are) (c .all-units .ensures) in
-    record {
-      formed = wf;
-      volumes-long = long g;
-      take-set = take-set g;
-      shaped = sym (g .gather .ensures .lacks-is) ∙ c .before .before .before .before .before .if3 .left;
-      take-is = toZ-ofZ w64 (settings c .«take_wh») (take-fits _ _ wf);
-      tolerance-is = refl;
-      nets-are = k .nets-are;
-      weighted-are = k .weighted-are;
-      counts-are = g .gather .ensures .counts-are;
-    }
+take-read : (c : tie.After-all-units) → toZ w64 (ofZ w64 (settings c .«take_wh»)) ≡ settings c .«take_wh»
+take-read c = toZ-ofZ w64 (settings c .«take_wh») (take-fits _ _ (start (gathered c) .pre))
 
 correct-units-requires : tie.Need-correct-units-requires
 correct-units-requires c κs =
-    let a = c .before .before .before .before .before in
-    record { settings = settings a; words = rows a; figures = figures a }
+    let a = c .before .before .before .before in
+    let g = gathered a in
+    rw (take-read a) (correct-arguments _ _ (start g .pre) (g .gather .ensures .cells-are) (a .all-units .ensures) (long g))
+
+answered-requires : tie.Need-answered-requires
+answered-requires c κs = search needs
 
 same-length : tie.Need-same-length
 same-length c = search needs
 
 returns-4 : tie.Need-returns-4
 returns-4 c =
-    let a = c .before .before .before .before .before .before .before in
-    c .before .correct-units .ensures .allocated (settings a) (rows a) (figures a)
+    let k = c .before .before .before in
+    let a = k .before .before .before .before .before in
+    let g = gathered a in
+    let wf = start g .pre in
+    rw (c .answered .ensures, g .gather .ensures .counts-are)
+    (way-corrected _ _ wf _ (long g) (take-set g) (sym (g .gather .ensures .lacks-is) ∙ a .before .before .before .before .before .if3 .left)
+    (rw (take-read a, sums-worked _ _ wf (g .gather .ensures .cells-are) (a .all-units .ensures)) at (k .correct-units .ensures)))
 
 pub allocate-formed-spec : {M : Type 1} → statement M
 allocate-formed-spec =
@@ -134,5 +117,6 @@ allocate-formed-spec =
     returns-3
     all-units-requires
     correct-units-requires
+    answered-requires
     same-length
     returns-4)

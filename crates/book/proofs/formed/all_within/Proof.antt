@@ -7,7 +7,7 @@ use native.Mathlib.Omega.{arith}
 use borrow.Author.Needs.{needs}
 use borrow.Author.Tests.{not-true, not-false}
 use lib.ListN.{length}
-use Rattle.book.specs.Contracts.{within}
+use Rattle.book.specs.Helpers.{within}
 use Rattle.book.proofs.AllOf.{Left, all-left, one-passes, one-fails, none-left}
 use Rattle.book.proofs.formed.all_within.Statement.{statement}
 use Rattle.book.proofs.formed.all_within.Tie as tie

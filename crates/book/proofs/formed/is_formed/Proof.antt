@@ -3,8 +3,8 @@ use mathlib.Core.Path.{sym, _∙_}
 use native.Mathlib.Omega.{arith}
 use denote.Ref.{now}
 use borrow.Author.Tests.{not-true, not-false}
-use Rattle.book.proofs.WellFormed.{room, too-many-meters, ill-formed-settings, rows-decide}
 use borrow.Author.Needs.{needs}
+use Rattle.book.proofs.WellFormed.{room, too-many-meters, ill-formed-settings, rows-decide}
 use Rattle.book.proofs.formed.is_formed.Statement.{statement}
 use Rattle.book.proofs.formed.is_formed.Tie as tie
 

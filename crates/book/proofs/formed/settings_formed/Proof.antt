@@ -6,10 +6,10 @@ use mathlib.Core.List.{List, [], _∷_}
 use lib.Dec.{eqb·suc-zero}
 use mir.Syntax.{w64}
 use mir.ValLaws.{toZ-ofZ}
+use borrow.Author.Needs.{needs}
 use Rattle.book.specs.Limits.{weightMost}
 use Rattle.book.specs.Settings.{isWeight, isTolerance, takeFormed, allOf, settingsFormed}
-use Rattle.book.specs.Contracts.{within}
-use borrow.Author.Needs.{needs}
+use Rattle.book.specs.Helpers.{within}
 use Rattle.book.proofs.formed.settings_formed.Statement.{statement}
 use Rattle.book.proofs.formed.settings_formed.Tie as tie
 

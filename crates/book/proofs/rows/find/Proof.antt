@@ -5,10 +5,10 @@ use mathlib.Core.Bool.{true, false}
 use mathlib.Core.List.{List}
 use lib.Dec.{eqb}
 use lib.ListN.{getD}
-use Rattle.book.specs.Rows.{rowsOf, rowsFormed}
-use Rattle.book.specs.Contracts.{placeOf, placeIn}
-use Rattle.book.proofs.PlaceOf.{known-none-in, known-at-in}
 use borrow.Author.Needs.{needs}
+use Rattle.book.specs.Rows.{rowsOf, rowsFormed}
+use Rattle.book.specs.Helpers.{placeOf, placeIn}
+use Rattle.book.proofs.PlaceOf.{known-none-in, known-at-in}
 use Rattle.book.proofs.rows.find.Statement.{statement}
 use Rattle.book.proofs.rows.find.Tie as tie
 

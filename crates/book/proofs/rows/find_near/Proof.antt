@@ -6,7 +6,7 @@ use mathlib.Core.List.{List}
 use borrow.Author.Needs.{needs}
 use lib.ListN.{getD}
 use Rattle.book.specs.Rows.{rowsOf, rowsFormed}
-use Rattle.book.specs.Contracts.{placeIn}
+use Rattle.book.specs.Helpers.{placeIn}
 use Rattle.book.proofs.PlaceOf.{place-same-in, known-same-in}
 use Rattle.book.proofs.rows.find_near.Statement.{statement}
 use Rattle.book.proofs.rows.find_near.Tie as tie

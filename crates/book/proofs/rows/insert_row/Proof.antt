@@ -5,10 +5,10 @@ use mathlib.Core.List.{List, _∷_, _++_}
 use native.Mathlib.Omega.{arith}
 use lib.ListN.{length, set, take, drop, length-set}
 use lib.Seq.{drop-drop}
+use borrow.Author.Needs.{needs}
 use Rattle.book.specs.Rows.{newRow, rowsOf, written}
 use Rattle.book.proofs.RowsOf.{first-three, length-rows, words-of-rows}
 use Rattle.book.proofs.Written.{written-cons}
-use borrow.Author.Needs.{needs}
 use Rattle.book.proofs.rows.insert_row.Statement.{statement}
 use Rattle.book.proofs.rows.insert_row.Tie as tie
 

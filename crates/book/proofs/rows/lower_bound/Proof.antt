@@ -10,7 +10,7 @@ use borrow.Author.Tests.{ltb-true, ltb-false}
 use lib.Dec.{ltb}
 use lib.ListN.{getD}
 use Rattle.book.specs.Rows.{rowsOf, rowsFormed}
-use Rattle.book.specs.Contracts.{placeOf}
+use Rattle.book.specs.Helpers.{placeOf}
 use Rattle.book.proofs.Rising.{mpan-small}
 use Rattle.book.proofs.PlaceOf.{place-within-in, before-place-in, place-before-in, mpan-in}
 use Rattle.book.proofs.rows.lower_bound.Statement.{statement}

@@ -1,7 +1,7 @@
 -- `additional` is the definition's test, and a number where it fails.
 use mathlib.Core.Path.{sym, _∙_}
-use Rattle.period_file.specs.Fields.{additionalOf}
 use borrow.Author.Needs.{needs}
+use Rattle.period_file.specs.Fields.{additionalOf}
 use Rattle.period_file.proofs.fields.additional.Statement.{statement}
 use Rattle.period_file.proofs.fields.additional.Tie as tie
 

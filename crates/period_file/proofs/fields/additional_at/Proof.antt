@@ -1,7 +1,7 @@
 -- `additional_at` is the additional unit of that field.
 use mathlib.Core.Path.{_∙_, ap}
-use Rattle.period_file.specs.Fields.{additionalOf, additionalAt}
 use borrow.Author.Needs.{needs}
+use Rattle.period_file.specs.Fields.{additionalOf, additionalAt}
 use Rattle.period_file.proofs.fields.additional_at.Statement.{statement}
 use Rattle.period_file.proofs.fields.additional_at.Tie as tie
 

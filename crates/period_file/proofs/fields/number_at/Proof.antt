@@ -1,8 +1,8 @@
 -- `number_at` is the number of that field.
 use mathlib.Core.Path.{_∙_, ap}
+use borrow.Author.Needs.{needs}
 use Rattle.period_file.specs.Numbers.{numberOf}
 use Rattle.period_file.specs.Fields.{numberAt}
-use borrow.Author.Needs.{needs}
 use Rattle.period_file.proofs.fields.number_at.Statement.{statement}
 use Rattle.period_file.proofs.fields.number_at.Tie as tie
 

@@ -1,9 +1,9 @@
 -- `find_key` tests the keys from the last: each test is the definition's, before the tests that were made already.
 use native.Mathlib.Omega.{arith}
 use mathlib.Core.Path.{refl}
+use borrow.Author.Needs.{needs}
 use Rattle.period_file.specs.Lines.{keyedLine, takeKey, toleranceKey, weightKey, shapeKey, meterKey, readingKey}
 use Rattle.period_file.proofs.LineOf.{tested}
-use borrow.Author.Needs.{needs}
 use Rattle.period_file.proofs.lines.find_key.Statement.{statement}
 use Rattle.period_file.proofs.lines.find_key.Tie as tie
 

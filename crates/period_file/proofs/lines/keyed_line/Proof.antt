@@ -1,8 +1,8 @@
 -- `keyed_line` reads the value behind the key that was found.
 use mathlib.Core.Path.{_∙_}
 use borrow.Author.Tests.{ne-eqb}
-use Rattle.period_file.proofs.LineOf.{value-read}
 use borrow.Author.Needs.{needs}
+use Rattle.period_file.proofs.LineOf.{value-read}
 use Rattle.period_file.proofs.lines.keyed_line.Statement.{statement}
 use Rattle.period_file.proofs.lines.keyed_line.Tie as tie
 

@@ -1,6 +1,6 @@
 -- `meter_line` reads the fields that the definition names.
-use Rattle.period_file.specs.Lines.{meterLine}
 use borrow.Author.Needs.{needs}
+use Rattle.period_file.specs.Lines.{meterLine}
 use Rattle.period_file.proofs.lines.meter_line.Statement.{statement}
 use Rattle.period_file.proofs.lines.meter_line.Tie as tie
 

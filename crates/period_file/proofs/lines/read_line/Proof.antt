@@ -1,6 +1,6 @@
 -- `read_line` tests the length, then the key and its fields, then the place in the order.
-use Rattle.period_file.proofs.LineOf.{too-long, in-order}
 use borrow.Author.Needs.{needs}
+use Rattle.period_file.proofs.LineOf.{too-long, in-order}
 use Rattle.period_file.proofs.lines.read_line.Statement.{statement}
 use Rattle.period_file.proofs.lines.read_line.Tie as tie
 

@@ -1,6 +1,6 @@
 -- `reading_line` reads the fields that the definition names.
-use Rattle.period_file.specs.Lines.{readingLine}
 use borrow.Author.Needs.{needs}
+use Rattle.period_file.specs.Lines.{readingLine}
 use Rattle.period_file.proofs.lines.reading_line.Statement.{statement}
 use Rattle.period_file.proofs.lines.reading_line.Tie as tie
 

@@ -1,6 +1,6 @@
 -- `shape_line` reads the fields that the definition names.
-use Rattle.period_file.specs.Lines.{shapeLine}
 use borrow.Author.Needs.{needs}
+use Rattle.period_file.specs.Lines.{shapeLine}
 use Rattle.period_file.proofs.lines.shape_line.Statement.{statement}
 use Rattle.period_file.proofs.lines.shape_line.Tie as tie
 

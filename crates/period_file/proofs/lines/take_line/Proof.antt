@@ -1,8 +1,8 @@
 -- `take_line` is the signed number after the key.
 use mir.Syntax.{w64}
 use mir.ValLaws.{toZ-ofZ}
-use Rattle.period_file.specs.Lines.{takeLine}
 use borrow.Author.Needs.{needs}
+use Rattle.period_file.specs.Lines.{takeLine}
 use Rattle.period_file.proofs.lines.take_line.Statement.{statement}
 use Rattle.period_file.proofs.lines.take_line.Tie as tie
 

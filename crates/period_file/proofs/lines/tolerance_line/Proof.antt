@@ -1,6 +1,6 @@
 -- `tolerance_line` is the number after the key.
-use Rattle.period_file.specs.Lines.{toleranceLine}
 use borrow.Author.Needs.{needs}
+use Rattle.period_file.specs.Lines.{toleranceLine}
 use Rattle.period_file.proofs.lines.tolerance_line.Statement.{statement}
 use Rattle.period_file.proofs.lines.tolerance_line.Tie as tie
 

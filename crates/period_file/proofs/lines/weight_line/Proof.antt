@@ -1,6 +1,6 @@
 -- `weight_line` reads the fields that the definition names.
-use Rattle.period_file.specs.Lines.{weightLine}
 use borrow.Author.Needs.{needs}
+use Rattle.period_file.specs.Lines.{weightLine}
 use Rattle.period_file.proofs.lines.weight_line.Statement.{statement}
 use Rattle.period_file.proofs.lines.weight_line.Tie as tie
 

@@ -1,10 +1,10 @@
 -- `signed` is the signed number of a text: by its first byte, and the value of a minus in front.
 use mathlib.Core.Path.{_∙_, ap}
 use native.Mathlib.Omega.{arith}
-use Rattle.period_file.specs.Numbers.{lessThanZero, notLessThanZero, numberOf}
-use Rattle.book.proofs.Parts.{rest-part}
-use Rattle.period_file.proofs.SignedOf.{no-byte, minus-first, no-minus-first, minus-fits, minus-value, plain-value}
 use borrow.Author.Needs.{needs}
+use Rattle.book.proofs.Parts.{rest-part}
+use Rattle.period_file.specs.Numbers.{lessThanZero, notLessThanZero, numberOf}
+use Rattle.period_file.proofs.SignedOf.{no-byte, minus-first, no-minus-first, minus-fits, minus-value, plain-value}
 use Rattle.period_file.proofs.numbers.signed.Statement.{statement}
 use Rattle.period_file.proofs.numbers.signed.Tie as tie
 

@@ -1,9 +1,9 @@
 -- `put_allocation` prints the status, and the figures and volumes of an accepted allocation.
 use native.Mathlib.Omega.{arith}
 use borrow.Author.Tests.{eq-eqb, ne-eqb}
+use borrow.Author.Needs.{needs}
 use Rattle.report.specs.Lines.{allocationText}
 use Rattle.report.proofs.Appending.{nothing, exact, both, at-most}
-use borrow.Author.Needs.{needs}
 use Rattle.report.proofs.lines.put_allocation.Statement.{statement}
 use Rattle.report.proofs.lines.put_allocation.Tie as tie
 

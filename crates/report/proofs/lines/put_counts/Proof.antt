@@ -1,8 +1,8 @@
 -- `put_counts` prints the four counts one after the other.
 use native.Mathlib.Omega.{arith}
+use borrow.Author.Needs.{needs}
 use Rattle.report.specs.Lines.{countLines}
 use Rattle.report.proofs.Appending.{both}
-use borrow.Author.Needs.{needs}
 use Rattle.report.proofs.lines.put_counts.Statement.{statement}
 use Rattle.report.proofs.lines.put_counts.Tie as tie
 

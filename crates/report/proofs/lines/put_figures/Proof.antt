@@ -1,9 +1,9 @@
 -- `put_figures` prints the counts, U and W.
 use mir.Syntax.{w64}
 use mir.ValLaws.{toZ-ofZ}
+use borrow.Author.Needs.{needs}
 use Rattle.report.specs.Lines.{figureLines}
 use Rattle.report.proofs.Appending.{both}
-use borrow.Author.Needs.{needs}
 use Rattle.report.proofs.lines.put_figures.Statement.{statement}
 use Rattle.report.proofs.lines.put_figures.Tie as tie
 

@@ -1,6 +1,6 @@
 -- `put_keyed` writes the key and the number.
-use Rattle.report.proofs.Appending.{exact, both}
 use borrow.Author.Needs.{needs}
+use Rattle.report.proofs.Appending.{exact, both}
 use Rattle.report.proofs.lines.put_keyed.Statement.{statement}
 use Rattle.report.proofs.lines.put_keyed.Tie as tie
 

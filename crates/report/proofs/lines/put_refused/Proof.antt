@@ -1,7 +1,7 @@
 -- `put_refused` writes the key with the line's number, and the refusal's number behind a comma.
+use borrow.Author.Needs.{needs}
 use Rattle.report.specs.Lines.{refusedLine, valueLine}
 use Rattle.report.proofs.Appending.{both}
-use borrow.Author.Needs.{needs}
 use Rattle.report.proofs.lines.put_refused.Statement.{statement}
 use Rattle.report.proofs.lines.put_refused.Tie as tie
 

@@ -1,9 +1,9 @@
 -- `put_signed_value` writes the key, the number and the end of the line.
 use mir.Syntax.{w64}
 use mir.ValLaws.{toZ-ofZ}
+use borrow.Author.Needs.{needs}
 use Rattle.report.specs.Lines.{signedLine}
 use Rattle.report.proofs.Appending.{exact, both}
-use borrow.Author.Needs.{needs}
 use Rattle.report.proofs.lines.put_signed_value.Statement.{statement}
 use Rattle.report.proofs.lines.put_signed_value.Tie as tie
 

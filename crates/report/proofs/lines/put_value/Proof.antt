@@ -1,9 +1,9 @@
 -- `put_value` writes the key with the number and the end of the line.
 use native.Mathlib.Omega.{arith}
 use mathlib.Core.List.{append-assoc}
+use borrow.Author.Needs.{needs}
 use Rattle.report.specs.Lines.{valueLine}
 use Rattle.report.proofs.Appending.{exact, both, at-most}
-use borrow.Author.Needs.{needs}
 use Rattle.report.proofs.lines.put_value.Statement.{statement}
 use Rattle.report.proofs.lines.put_value.Tie as tie
 

@@ -1,11 +1,11 @@
 -- `put_volume` prints nothing for a volume of 0, and else the key, the unit, a comma, the volume and the end of the line.
 use mir.Syntax.{w64}
 use mir.ValLaws.{toZ-ofZ}
-use Rattle.report.specs.Lines.{signedLine}
 use native.Mathlib.Omega.{arith}
+use borrow.Author.Needs.{needs}
+use Rattle.report.specs.Lines.{signedLine}
 use Rattle.report.proofs.Appending.{nothing, exact, both, at-most}
 use Rattle.report.proofs.Volumes.{no-line, a-line}
-use borrow.Author.Needs.{needs}
 use Rattle.report.proofs.lines.put_volume.Statement.{statement}
 use Rattle.report.proofs.lines.put_volume.Tie as tie
 

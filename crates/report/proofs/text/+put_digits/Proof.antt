@@ -1,10 +1,10 @@
 -- `put_digits` writes the digits of the tenth of n, and then the last. The measure is n.
 use native.Mathlib.Omega.{arith}
 use borrow.Author.Needs.{needs}
-use Rattle.report.proofs.Decimal.{one-long, one-longer, one-written, last-written}
 use Prim.Native.Nat.{ℕ, _<_}
 use borrow.Fn.Kinds.{In}
 use borrow.Fn.PlainCycle.{Measures, is, falls, and}
+use Rattle.report.proofs.Decimal.{one-long, one-longer, one-written, last-written}
 use Rattle.report.proofs.text.put_digits.Reads as put-digits
 use Rattle.report.proofs.text.put_digits.Kinds as put-digits-kinds
 use Rattle.report.proofs.text.+put_digits.Lts-put_digits as put-digits-lts

@@ -1,8 +1,8 @@
 -- `put_number` writes at most 20 digits.
 use native.Mathlib.Omega.{arith}
+use borrow.Author.Needs.{needs}
 use Rattle.report.proofs.Appending.{exact, at-most}
 use Rattle.report.proofs.Decimal.{within-20}
-use borrow.Author.Needs.{needs}
 use Rattle.report.proofs.text.put_number.Statement.{statement}
 use Rattle.report.proofs.text.put_number.Tie as tie
 

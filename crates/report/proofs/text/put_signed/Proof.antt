@@ -2,9 +2,9 @@
 use mir.Syntax.{w64}
 use mir.ValLaws.{toZ-ofZ}
 use native.Mathlib.Omega.{arith}
+use borrow.Author.Needs.{needs}
 use Rattle.report.proofs.Appending.{exact, both, at-most}
 use Rattle.report.proofs.Signed.{below-zero, not-below-zero}
-use borrow.Author.Needs.{needs}
 use Rattle.report.proofs.text.put_signed.Statement.{statement}
 use Rattle.report.proofs.text.put_signed.Tie as tie
 

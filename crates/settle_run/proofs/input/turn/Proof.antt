@@ -1,10 +1,10 @@
 -- `turn` takes what its attempt to read gave, and keeps what holds between two reads: a read of 1,024 bytes prints at most 51,200.
 use mathlib.Core.Path.{refl}
 use native.Mathlib.Omega.{arith}
+use borrow.Author.Needs.{needs}
 use Rattle.report.proofs.Appending.{at-most}
 use Rattle.settle_run.specs.Program.{gave, again, failed, takeAttempt}
 use Rattle.settle_run.proofs.Attempts.{nothing-read}
-use borrow.Author.Needs.{needs}
 use Rattle.settle_run.proofs.input.turn.Statement.{statement}
 use Rattle.settle_run.proofs.input.turn.Tie as tie
 

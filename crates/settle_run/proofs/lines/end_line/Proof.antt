@@ -1,8 +1,8 @@
 -- `end_line` makes the call of the gathered line: it is out of form, refused or accepted.
 use native.Mathlib.Omega.{arith}
+use borrow.Author.Needs.{needs}
 use Rattle.settle_run.proofs.Steps.{from-start}
 use Rattle.settle_run.proofs.LineEnds.{out-of-form, refused, accepted}
-use borrow.Author.Needs.{needs}
 use Rattle.settle_run.proofs.lines.end_line.Statement.{statement}
 use Rattle.settle_run.proofs.lines.end_line.Tie as tie
 

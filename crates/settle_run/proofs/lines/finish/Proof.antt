@@ -1,7 +1,7 @@
 -- `finish` ends the last line, and then prints the outcome.
-use Rattle.settle_run.specs.Program.{endText}
-use Rattle.report.proofs.Appending.{both}
 use borrow.Author.Needs.{needs}
+use Rattle.report.proofs.Appending.{both}
+use Rattle.settle_run.specs.Program.{endText}
 use Rattle.settle_run.proofs.lines.finish.Statement.{statement}
 use Rattle.settle_run.proofs.lines.finish.Tie as tie
 

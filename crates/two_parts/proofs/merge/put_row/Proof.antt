@@ -8,7 +8,7 @@ use borrow.Author.Needs.{needs}
 use lib.ListN.{length, set, take, drop, length-set}
 use lib.Seq.{drop-drop, sets-eq}
 use Rattle.book.specs.Rows.{Row, wordsOf, written}
-use Rattle.book.specs.Contracts.{row}
+use Rattle.book.specs.Helpers.{row}
 use Rattle.book.proofs.RowsOf.{length-rows, words-of-rows}
 use Rattle.book.proofs.Written.{written-append}
 use Rattle.two_parts.specs.Merge.{rowPut}

@@ -4,7 +4,7 @@ use mathlib.Core.Path.{_≡_, _∙_}
 use mathlib.Core.List.{List}
 use native.Mathlib.Omega.{arith}
 use borrow.Author.Needs.{needs}
-use Rattle.book.specs.Contracts.{RowsReady}
+use Rattle.book.specs.Helpers.{RowsReady}
 use Rattle.book.proofs.WellFormed.{room}
 use Rattle.two_parts.specs.TwoParts.{asOne, PartsReady, HasRoom}
 use Rattle.two_parts.proofs.AsOne.{as-one-ready, as-one-none, none-later}

@@ -1,0 +1,112 @@
+// The energy of a meter, and the class it goes to.
+use crate::Use;
+use book::formed::wide;
+ghost use mathlib.Core.Path.{_≡_};
+ghost use Prim.Native.Nat.{_≤_};
+ghost use lib.ListN.{length};
+ghost use Rattle.book.specs.Limits.{categories};
+ghost use Rattle.cells.specs.Energy.{readingSource, usedDeEnergised, sourceOf};
+ghost use Rattle.cells.specs.Cells.{classOf};
+ghost use Rattle.cells.specs.Helpers.{sourceNumber, estimateOf, useOf};
+
+// Where a meter's energy comes from, in the order of the four counts.
+pub const ACTUAL: u64 = 0;
+
+pub const ESTIMATED: u64 = 1;
+
+pub const DEFAULTED: u64 = 2;
+
+pub const IDLE: u64 = 3;
+
+const DE_ENERGISED: u64 = 1;
+
+const ENERGISED: u64 = 2;
+
+// Where the energy of a reading in use comes from, by its quality code.
+fn reading_source(reading: u64) -> u64
+    ensures { λ r. ⌜ r ≡ sourceNumber (readingSource reading) ⌝ }
+{
+    if words::is_actual(words::quality(reading)) {
+        ACTUAL
+    } else {
+        ESTIMATED
+    }
+}
+
+// Whether a de-energised meter uses its reading.
+fn used_de_energised(reading: u64) -> bool
+    ensures { λ r. ⌜ r ≡ usedDeEnergised reading ⌝ }
+{
+    let quality = words::quality(reading);
+    (reading != words::NO_READING) & (words::is_actual(quality) | words::is_e2_or_e6(quality))
+}
+
+// Where a meter's energy comes from.
+pub fn source(registration: u64, reading: u64) -> u64
+    ensures { λ r. ⌜ r ≡ sourceNumber (sourceOf registration reading) ⌝ }
+{
+    let status = words::status(registration);
+    if status == ENERGISED {
+        if reading == words::NO_READING {
+            return DEFAULTED;
+        }
+        return reading_source(reading);
+    }
+    if status == DE_ENERGISED {
+        if used_de_energised(reading) {
+            return reading_source(reading);
+        }
+    }
+    IDLE
+}
+
+// What a meter comes to under these shapes.
+pub fn use_of(shapes: &[u32; 64], registration: u64, reading: u64) -> Use
+    requires { ⌜ length (now shapes) ≡ categories ⌝ }
+    ensures { λ r. ⌜ r ≡ useOf (now (shapes .entry)) registration reading ⌝ }
+{
+    let from = source(registration, reading);
+    if from <= ESTIMATED {
+        return Use {
+            source: from,
+            wh: words::consumption(reading),
+            lacks: false,
+        };
+    }
+    if from == IDLE {
+        return Use {
+            source: from,
+            wh: 0,
+            lacks: false,
+        };
+    }
+    let category = words::category(registration) as usize;
+    let shape = wide(shapes[category]);
+    if shape == book::Settings::SHAPE_MISSING {
+        return Use {
+            source: from,
+            wh: 0,
+            lacks: true,
+        };
+    }
+    Use {
+        source: from,
+        wh: shape,
+        lacks: false,
+    }
+}
+
+// e of a meter's class: 0 if its energy is an actual reading, else 1.
+pub fn estimate(from: u64) -> u64
+    ensures { λ r. ⌜ r ≡ estimateOf from ⌝ }
+{
+    if from == ACTUAL { 0 } else { 1 }
+}
+
+// The class of a meter's consumption, from its registration and e.
+pub fn class(registration: u64, e: u64) -> u64
+    requires { ⌜ e ≤ 1 ⌝ }
+    ensures { λ r. ⌜ r ≡ classOf e registration ⌝ }
+{
+    8 * words::segment(registration) + 4 * words::direction(registration) + 2 * e
+}

@@ -1,0 +1,3 @@
+// Whole lists of calls in one call, and a whole half hour.
+pub mod half_hour;
+pub mod list;

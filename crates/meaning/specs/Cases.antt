@@ -1,0 +1,198 @@
+-- "Figures to hold it against": cases 1 to 10, as a table of the definitions.
+use Prim.Native.Nat.{ℕ, zero, suc}
+use mathlib.Core.Bool.{Bool, true, _&&_}
+use mathlib.Core.List.{List, [], _∷_, _++_}
+use lib.Dec.{eqb}
+use lib.IntN.{ℤ, pos, negℤ, natAbs, _-ℤ_}
+use lib.ListN.{getD, replicate}
+use Rattle.book.specs.declared.Settings.{Settings}
+use Rattle.book.specs.declared.Setting.the-variants.{Weight, Tolerance, GroupTake}
+use Rattle.book.specs.Rows.{Row, capacity}
+use Rattle.book.specs.Book.{Book, freshBook, usedRows}
+use Rattle.calls.specs.declared.Call.{Call}
+use Rattle.calls.specs.declared.Call.the-variants.{Register, Record, Set}
+use Rattle.calls.specs.Calls.{bookAfter, numbersGiven}
+use Rattle.cells.specs.Cells.{cell}
+use Rattle.correction.specs.Volumes.{volumesOf}
+use Rattle.allocation.specs.declared.Allocated.{Allocated}
+use Rattle.allocation.specs.Allocate.{allUnitSums, Allocation, metersCause, figuresOf, refusedWith, allocateCall}
+use Rattle.meaning.specs.Meaning.{meantMeters, meantSettings}
+
+-- one figure that a case states
+pub data Figure : Type 0 where
+  -- the number that the allocation gives: 0, "accepted", or a refusal
+  allocationGives : ℕ → Figure
+  -- the number that a call of the list gives, counted from 0
+  callGives : (place number : ℕ) → Figure
+  -- a unit's volume
+  volumeIs : (unit : ℕ) → ℤ → Figure
+  -- a cell of a unit and a class
+  cellIs : (unit class : ℕ) → ℤ → Figure
+  -- U and W
+  unallocatedIs : ℤ → Figure
+  weightedIs : ℤ → Figure
+
+-- a case: its calls, and the figures after them
+pub record Case : Type 0 where
+  pub calls : List Call
+  pub figures : List Figure
+
+unfoldable pub same : ℤ → ℤ → Bool
+same x y = eqb (natAbs (x -ℤ y)) 0
+
+-- what a case is held against: the numbers that its calls gave, the shapes and the meters, the allocation's answer and its volumes
+pub record Worked : Type 0 where
+  pub numbers : List ℕ
+  pub shapes : List ℕ
+  pub meters : List Row
+  pub answer : Allocated
+  pub volumes : List ℤ
+
+unfoldable pub figureHolds : Worked → Figure → Bool
+figureHolds x (allocationGives n) = eqb (x .answer .number) n
+figureHolds x (callGives place n) = eqb (getD (x .numbers) place 0) n
+figureHolds x (volumeIs unit wh) = same (getD (x .volumes) unit (pos 0)) wh
+figureHolds x (cellIs unit class wh) = same (cell (x .shapes) (x .meters) unit class) wh
+figureHolds x (unallocatedIs u) = same (x .answer .unallocated) u
+figureHolds x (weightedIs w) = same (x .answer .weighted) w
+
+unfoldable pub figuresHold : Worked → List Figure → Bool
+figuresHold x [] = true
+figuresHold x (f ∷ figures) = figureHolds x f && figuresHold x figures
+
+-- each case starts from a fresh book with room for three meters and lends 32 volumes
+abbrev pub caseWords : List ℕ
+caseWords = replicate 9 0
+
+abbrev pub caseVolumes : List ℤ
+caseVolumes = replicate 32 (pos 0)
+
+-- worked by making the calls
+unfoldable pub byCalls : List ℕ → Book → Allocation → Worked
+byCalls numbers b a =
+    record {
+      numbers = numbers;
+      shapes = b .settings .shapes;
+      meters = usedRows b;
+      answer = a .answer;
+      volumes = a .volumes;
+    }
+
+-- worked from what the list means
+unfoldable pub byMeaning : List ℕ → Settings → List Row → ℕ → Worked
+byMeaning numbers s meters zero =
+    record {
+      numbers = numbers;
+      shapes = s .shapes;
+      meters = meters;
+      answer = figuresOf s meters;
+      volumes = volumesOf (s .«take_wh») (allUnitSums s meters);
+    }
+byMeaning numbers s meters (suc k) =
+    record { numbers = numbers; shapes = s .shapes; meters = meters; answer = refusedWith (suc k); volumes = caseVolumes }
+
+-- a case holds both ways
+unfoldable pub caseHolds : List ℕ → Book → Settings → List Row → List Figure → Bool
+caseHolds numbers b s meters figures =
+    figuresHold (byCalls numbers b (allocateCall b caseVolumes)) figures
+    && figuresHold (byMeaning numbers s meters (metersCause s meters)) figures
+
+unfoldable pub holds : Case → Bool
+holds x =
+    caseHolds (numbersGiven (freshBook caseWords) (x .calls)) (bookAfter (freshBook caseWords) (x .calls))
+    (meantSettings (capacity caseWords) (x .calls)) (meantMeters (capacity caseWords) (x .calls))
+    (x .figures)
+
+unfoldable pub casesHold : List Case → Bool
+casesHold [] = true
+casesHold (x ∷ cases) = holds x && casesHold cases
+
+-- an energised meter of a base unit, by segment, direction and LLF
+abbrev pub meter : ℕ → ℕ → ℕ → ℕ → ℕ → Call
+meter mpan segment direction base llf =
+    Register mpan
+    (record {
+      segment = segment;
+      direction = direction;
+      status = 2;
+      base = base;
+      flag = 0;
+      additional = 0;
+      category = 0;
+      llf = llf;
+    })
+
+-- a reading of code 0 and issue 1
+abbrev pub actual : ℕ → ℕ → Call
+actual mpan wh = Record mpan (record { issue = 1; quality = 0; consumption = wh })
+
+-- "weights 8, 9 at 1,000"
+abbrev pub weights : List Call
+weights = Set (Weight 8 1000) ∷ Set (Weight 9 1000) ∷ []
+
+-- "Three units, 100 Wh smart import code 0 each, LLF 1,000, Take 301"
+abbrev pub threeUnits : List Call
+threeUnits =
+    weights
+    ++ Set (GroupTake (pos 301))
+    ∷ meter 1200000000002 1 0 0 1000
+    ∷ meter 1300000000007 1 0 1 1000
+    ∷ meter 1400000000001 1 0 2 1000
+    ∷ actual 1200000000002 100
+    ∷ actual 1300000000007 100
+    ∷ actual 1400000000001 100
+    ∷ []
+
+-- "Unit 0: 1,000 Wh as before with LLF 1,050. Unit 1: 400 Wh advanced export code 0, LLF 1,000, weight 20 at 500"
+abbrev pub importAndExport : ℤ → List Call
+importAndExport takeWh =
+    weights
+    ++ Set (Weight 20 500)
+    ∷ Set (GroupTake takeWh)
+    ∷ meter 1200000000002 1 0 0 1050
+    ∷ meter 1300000000007 2 1 1 1000
+    ∷ actual 1200000000002 1000
+    ∷ actual 1300000000007 400
+    ∷ []
+
+unfoldable pub cases : List Case
+cases =
+    -- 1: "101, 100, 100"
+    record { calls = threeUnits; figures = allocationGives 0 ∷ volumeIs 0 (pos 101) ∷ volumeIs 1 (pos 100) ∷ volumeIs 2 (pos 100) ∷ [] }
+    -- 2: "The same with g = 4: accepted"
+    ∷ record { calls = threeUnits ++ Set (Tolerance 4) ∷ []; figures = allocationGives 0 ∷ [] }
+    -- 3: "With g = 3: refusal 11"
+    ∷ record { calls = threeUnits ++ Set (Tolerance 3) ∷ []; figures = allocationGives 11 ∷ [] }
+    -- 4: "Take 700: U 50, W 1,250,000, volumes 1,092 and −392"
+    ∷ record {
+      calls = importAndExport (pos 700);
+      figures = allocationGives 0 ∷ unallocatedIs (pos 50) ∷ weightedIs (pos 1250000) ∷ volumeIs 0 (pos 1092) ∷ volumeIs 1 (negℤ (pos 392)) ∷ [];
+    }
+    -- 5: "The same, Take 649: 1,049 and −400"
+    ∷ record { calls = importAndExport (pos 649); figures = allocationGives 0 ∷ volumeIs 0 (pos 1049) ∷ volumeIs 1 (negℤ (pos 400)) ∷ [] }
+    -- 6: "10 Wh, LLF 1,050: loss 1"
+    ∷ record { calls = meter 1200000000002 1 0 0 1050 ∷ actual 1200000000002 10 ∷ []; figures = cellIs 0 9 (pos 1) ∷ [] }
+    -- 7: "LLF 950: loss −1"
+    ∷ record { calls = meter 1200000000002 1 0 0 950 ∷ actual 1200000000002 10 ∷ []; figures = cellIs 0 9 (negℤ (pos 1)) ∷ [] }
+    -- 8: "Two such meters at 1,050 in one cell: loss 1"
+    ∷ record {
+      calls =
+          meter 1200000000002 1 0 0 1050
+          ∷ meter 1300000000007 1 0 0 1050
+          ∷ actual 1200000000002 10
+          ∷ actual 1300000000007 10
+          ∷ [];
+      figures = cellIs 0 9 (pos 1) ∷ [];
+    }
+    -- 9: "Empty book, Take 0: refusal 10"
+    ∷ record { calls = Set (GroupTake (pos 0)) ∷ []; figures = allocationGives 10 ∷ [] }
+    -- 10: "Issue 5 actual 100, then issue 4 estimate 90: refusal 5, 100 used"
+    ∷ record {
+      calls =
+          meter 1200000000002 1 0 0 1000
+          ∷ Record 1200000000002 (record { issue = 5; quality = 0; consumption = 100 })
+          ∷ Record 1200000000002 (record { issue = 4; quality = 7; consumption = 90 })
+          ∷ [];
+      figures = callGives 1 0 ∷ callGives 2 5 ∷ cellIs 0 8 (pos 100) ∷ [];
+    }
+    ∷ []

@@ -1,0 +1,2 @@
+-- Laws of how a refusal is chosen.
+pub mod Passed

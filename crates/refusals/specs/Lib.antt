@@ -1,0 +1,2 @@
+-- The numbers of refusals, and how one is chosen.
+pub mod Causes

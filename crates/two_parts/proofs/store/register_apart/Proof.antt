@@ -1,0 +1,102 @@
+-- `register_apart` leaves what storing a registration leaves in the parts merged: in the first part or in the later rows. Assumes nothing.
+use Prim.Native.Nat.{_+_, _*_, _≤_}
+use mathlib.Core.Path.{_≡_, sym, _∙_, ap}
+use native.Mathlib.Omega.{arith}
+use borrow.Author.Needs.{needs}
+use lib.ListN.{length}
+use Rattle.book.specs.declared.Place.{Place}
+use Rattle.book.specs.Rows.{rowsOf, isKnown}
+use Rattle.book.proofs.WellFormed.{room}
+use Rattle.two_parts.proofs.LaterStored.{lent-ready}
+use Rattle.two_parts.proofs.RegisteredApart.{registered-there, registered-apart}
+use Rattle.two_parts.proofs.store.register_apart.Statement.{statement}
+use Rattle.two_parts.proofs.store.register_apart.Tie as tie
+
+-- where the search in the first part is done
+abbrev start : tie.After-find → tie.Start
+start c = c .before .before .before
+
+known-is : (c : tie.After-find) → c .find .result .known ≡ isKnown (start c .args .mpan) (rowsOf (start c .args .first) (start c .args .rows .now))
+known-is c = ap (λ (p : Place). p .known) (c .find .ensures)
+
+has-room : (c : tie.Start) → 3 * (c .args .first + c .args .later) ≤ length (c .args .rows .now)
+has-room c = room (c .args .rows .now) (c .args .first + c .args .later) (c .pre .within-capacity)
+
+-- where the meter is not in the first part: the later rows end within the slice
+abbrev missed : tie.After-row-capacity → tie.After-find
+missed c = c .before .before .before
+
+end-within : (c : tie.After-row-capacity) → 3 * c .row-capacity .result ≤ length (start (missed c) .args .rows .now)
+end-within c = room (start (missed c) .args .rows .now) (c .row-capacity .result) (omega (arith, c .row-capacity .ensures))
+
+find-requires : tie.Need-find-requires
+find-requires c κs =
+    let s = c .before .before in
+    (omega (arith, has-room s), s .pre .first-formed)
+
+store-registration-at-requires : tie.Need-store-registration-at-requires
+store-registration-at-requires c κs = search needs
+
+stored-first-requires : tie.Need-stored-first-requires
+stored-first-requires c κs = search needs
+
+same-length : tie.Need-same-length
+same-length c = search needs
+
+returns : tie.Need-returns
+returns c =
+    let t = c .before .before .before .before .before in
+    rw (c .stored-first .ensures)
+    (registered-there _ _ _ (start (t .before) .pre) _ _ (sym (known-is (t .before)) ∙ t .if1 .taken) (c .before .before .before .store-registration-at .ensures))
+
+mul-start : tie.Need-mul-start
+mul-start c = omega (arith, has-room (start (c .before)), start (c .before) .good)
+
+row-capacity-requires : tie.Need-row-capacity-requires
+row-capacity-requires c κs = search needs
+
+mul-end : tie.Need-mul-end
+mul-end c = omega (arith, end-within c, start (missed c) .good)
+
+mul-store-registration : tie.Need-mul-store-registration
+mul-store-registration c = omega (arith, has-room (start (missed c)), start (missed c) .good)
+
+sub-store-registration : tie.Need-sub-store-registration
+sub-store-registration c = search needs
+
+part-store-registration-start : tie.Need-part-store-registration-start
+part-store-registration-start c = search needs
+
+part-store-registration-end : tie.Need-part-store-registration-end
+part-store-registration-end c = omega (arith, end-within c)
+
+store-registration-requires : tie.Need-store-registration-requires
+store-registration-requires c κs = lent-ready _ _ _ (start (missed (c .before)) .pre) (c .before .row-capacity .ensures)
+
+same-length-2 : tie.Need-same-length-2
+same-length-2 c = search needs
+
+returns-2 : tie.Need-returns-2
+returns-2 c =
+    let r = c .before .before .before .before in
+    registered-apart _ _ _ (start (missed r) .pre) _ _ (sym (known-is (missed r)) ∙ r .before .before .if1 .left) (r .row-capacity .ensures) (c .before .before .store-registration .ensures)
+
+pub register-apart-spec : {M : Type 1} → statement M
+register-apart-spec =
+    tie.close
+    (tie.spec
+    find-requires
+    store-registration-at-requires
+    stored-first-requires
+    same-length
+    returns
+    mul-start
+    row-capacity-requires
+    mul-end
+    mul-store-registration
+    sub-store-registration
+    part-store-registration-start
+    part-store-registration-end
+    store-registration-requires
+    same-length-2
+    returns-2)
