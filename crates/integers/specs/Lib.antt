@@ -2,4 +2,4 @@
 pub mod Sum
 pub mod Quotient
 pub mod Rounding
-pub mod Share
+pub mod Helpers

@@ -5,7 +5,7 @@ ghost use lib.IntN.{pos, natAbs, _+ℤ_, _*ℤ_};
 ghost use lib.Signed.{_<ℤ_};
 ghost use Rattle.integers.specs.Quotient.{quotientOf};
 ghost use Rattle.integers.specs.Rounding.{nearestWh};
-ghost use Rattle.integers.specs.Share.{ShareArguments, DigitArguments};
+ghost use Rattle.integers.specs.Helpers.{ShareArguments, DigitArguments};
 
 // A quotient rounded down, and the fraction above it, times the divisor.
 pub struct Quotient {

@@ -10,7 +10,7 @@ use Rattle.period_file.specs.declared.Found.{Found}
 use Rattle.period_file.specs.declared.Line.{Line}
 use Rattle.period_file.specs.declared.Line.the-variants.{OutOfForm}
 use Rattle.period_file.specs.Fields.{startsWith}
-use Rattle.period_file.specs.Keys.{keyOr, valueLine, Means}
+use Rattle.period_file.specs.Helpers.{keyOr, valueLine, Means}
 use Rattle.period_file.specs.Lines.{inForm, keyedLine, lineMost, lineOf, kindOf, kindFollows, lineAfter}
 use Rattle.period_file.proofs.FieldsOf.{key-within}
 

@@ -2,4 +2,4 @@
 pub mod Numbers
 pub mod Fields
 pub mod Lines
-pub mod Keys
+pub mod Helpers

@@ -12,7 +12,7 @@ use calls::Call;
 use words::Reading;
 use words::Registration;
 ghost use mathlib.Core.Path.{_≡_};
-ghost use Rattle.period_file.specs.Keys.{keyOr, Means};
+ghost use Rattle.period_file.specs.Helpers.{keyOr, Means};
 ghost use Rattle.period_file.specs.Lines.{inForm, takeLine, toleranceLine, weightLine, shapeLine, meterLine, readingLine, keyedLine, settingKind, callKind, kindOf, kindFollows, lineAfter};
 
 // The bytes of a line, at most, without its line feed.

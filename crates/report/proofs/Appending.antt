@@ -6,7 +6,7 @@ use native.Mathlib.Numerals.{add-one}
 use native.Mathlib.Omega.{arith}
 use lib.ListN.{length, getD, take, drop, set, drop-of-length-le, length-append, length-drop, take-append-drop}
 use lib.Seq.{length-take-le, take-at, drop-append-add, drop-drop, drop-cons, set-split}
-use Rattle.report.specs.Appended.{Appended, Printed}
+use Rattle.report.specs.Helpers.{Appended, Printed}
 
 -- no text
 pub nothing : (a : List ℕ) (used : ℕ) → used ≤ length a → Appended a used [] a used

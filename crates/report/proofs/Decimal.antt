@@ -8,7 +8,7 @@ use native.Mathlib.Nat.{pow-succ', mod-eq-of-lt}
 use borrow.Author.Tests.{lt-ltb, le-ltb}
 use lib.Dec.{ltb}
 use lib.ListN.{length, length-append}
-use Rattle.report.specs.Appended.{Appended}
+use Rattle.report.specs.Helpers.{Appended}
 use Rattle.report.specs.Numbers.{digitByte, digitsWithin, decimal}
 use Rattle.report.proofs.Appending.{then}
 

@@ -7,7 +7,7 @@ use borrow.Author.Tests.{eq-eqb, ne-eqb}
 use lib.IntN.{ℤ, pos, natAbs}
 use lib.ListN.{length, getD, drop, drop-of-length-le}
 use lib.Seq.{drop-cons}
-use Rattle.report.specs.Appended.{Appended}
+use Rattle.report.specs.Helpers.{Appended}
 use Rattle.report.specs.Lines.{comma, lineFeed, volumeKey, volumeLine, volumeLines}
 use Rattle.report.specs.Numbers.{decimal, signedDecimal}
 use Rattle.report.proofs.Appending.{nothing, then}

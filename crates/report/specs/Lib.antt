@@ -1,5 +1,5 @@
 -- What the program prints, and what writing it into a buffer does.
 pub mod Numbers
 pub mod Lines
-pub mod Appended
+pub mod Helpers
 pub mod Example

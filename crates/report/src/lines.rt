@@ -11,7 +11,7 @@ ghost use mathlib.Core.List.{_++_};
 ghost use lib.ListN.{length};
 ghost use Rattle.report.specs.Numbers.{decimal};
 ghost use Rattle.report.specs.Lines.{valueLine, signedLine, refusedLine, badLine, countLines, figureLines, volumeLine, volumeLines, allocationText};
-ghost use Rattle.report.specs.Appended.{Printed};
+ghost use Rattle.report.specs.Helpers.{Printed};
 
 const LINE_FEED: u8 = b'\n';
 

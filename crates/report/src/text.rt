@@ -5,7 +5,7 @@ ghost use mathlib.Core.Path.{_≡_};
 ghost use mathlib.Core.List.{[], _∷_};
 ghost use lib.ListN.{length};
 ghost use Rattle.report.specs.Numbers.{digitByte, decimal, signedDecimal};
-ghost use Rattle.report.specs.Appended.{Appended, Printed};
+ghost use Rattle.report.specs.Helpers.{Appended, Printed};
 
 const MINUS: u8 = b'-';
 

@@ -6,7 +6,7 @@ use native.Mathlib.Omega.{arith}
 use mathlib.Core.List.{List, [], _∷_, _++_}
 use Rattle.settle_run.specs.declared.State.{State}
 use Rattle.settle_run.specs.Program.{Work, Step, freshWork, takeBytes, takeRead, Attempt, gave, again, failed, takeAttempt, takeAttempts, attemptsText, given, allWentOn, ended, endText, settleText}
-use Rattle.settle_run.specs.Contracts.{held, Between, Turned, Read}
+use Rattle.settle_run.specs.Helpers.{held, Between, Turned, Read}
 use Rattle.settle_run.proofs.Steps.{printed-nothing}
 use Rattle.settle_run.proofs.Bytes.{chunks}
 

@@ -10,7 +10,7 @@ use lib.Seq.{length-take-le, take-suc-set, drop-cons}
 use Rattle.period_file.specs.Lines.{lineMost}
 use Rattle.settle_run.specs.declared.State.{State}
 use Rattle.settle_run.specs.Program.{Work, quiet, after, endLine, gather, takeByte, takeBytes}
-use Rattle.settle_run.specs.Contracts.{held, Took, Stopped}
+use Rattle.settle_run.specs.Helpers.{held, Took, Stopped}
 use Rattle.settle_run.proofs.Steps.{printed-nothing, quiet-step, larger, next}
 
 -- the state with so many bytes in the line buffer

@@ -9,10 +9,10 @@ use lib.Seq.{length-take-le}
 use Rattle.allocation.specs.declared.Allocated.{Allocated}
 use Rattle.allocation.specs.Allocate.{allocateCall}
 use Rattle.report.specs.Lines.{allocationText}
-use Rattle.report.specs.Appended.{Printed}
+use Rattle.report.specs.Helpers.{Printed}
 use Rattle.settle_run.specs.declared.State.{State}
 use Rattle.settle_run.specs.Program.{Work, quiet, withPhase, endLine, takeBytes, takeRead, endInput, closingText}
-use Rattle.settle_run.specs.Contracts.{held}
+use Rattle.settle_run.specs.Helpers.{held}
 
 -- a read of no byte, and of some
 module _ (w : Work) where

@@ -13,10 +13,10 @@ use Rattle.period_file.specs.declared.Line.{Line}
 use Rattle.period_file.specs.declared.Line.the-variants.{OutOfForm, Makes}
 use Rattle.period_file.specs.Lines.{lineMost, kindOf, lineOutcome, LineTaken}
 use Rattle.report.specs.Lines.{refusedLine}
-use Rattle.report.specs.Appended.{Printed}
+use Rattle.report.specs.Helpers.{Printed}
 use Rattle.settle_run.specs.declared.State.{State}
 use Rattle.settle_run.specs.Program.{endLine}
-use Rattle.settle_run.specs.Contracts.{held, Took, Stopped}
+use Rattle.settle_run.specs.Helpers.{held, Took, Stopped}
 use Rattle.settle_run.proofs.Steps.{printed-nothing}
 
 -- a line without a kind makes no call

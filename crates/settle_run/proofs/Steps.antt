@@ -5,11 +5,11 @@ use mathlib.Core.List.{List, []}
 use native.Mathlib.Omega.{arith}
 use lib.ListN.{length, take}
 use Rattle.period_file.specs.Lines.{lineMost}
-use Rattle.report.specs.Appended.{Printed}
+use Rattle.report.specs.Helpers.{Printed}
 use Rattle.report.proofs.Appending.{nothing, exact, both, at-most}
 use Rattle.settle_run.specs.declared.State.{State}
 use Rattle.settle_run.specs.Program.{Work, Step, quiet, after}
-use Rattle.settle_run.specs.Contracts.{held, Took}
+use Rattle.settle_run.specs.Helpers.{held, Took}
 
 -- the first bytes of a buffer, as a part of it
 pub from-start : (n : ℕ) (xs : List ℕ) → take (n - 0) xs ≡ take n xs

@@ -4,7 +4,7 @@ use crate::lines::take_read;
 use crate::output::flush;
 use crate::output::will_pass;
 use libc::STDIN_FILENO;
-ghost use Rattle.settle_run.specs.Contracts.{Between, Turned};
+ghost use Rattle.settle_run.specs.Helpers.{Between, Turned};
 
 // One read, after what waits was written. At the end of the input, and where reading fails, the phase changes.
 pub fn turn(state: State, line: &mut [u8], rows: &mut [u64], out: &mut [u8]) -> State

@@ -6,7 +6,7 @@ mod output;
 
 use book::Settings;
 use period_file::lines::LINE_MAX;
-ghost use Rattle.settle_run.specs.Contracts.{Fresh, Between, Read};
+ghost use Rattle.settle_run.specs.Helpers.{Fresh, Between, Read};
 
 // The words of 512 meters.
 const ROW_WORDS: usize = 1_536;

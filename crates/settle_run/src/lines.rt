@@ -8,9 +8,9 @@ use report::lines::put_bad_line;
 use report::lines::put_refused;
 ghost use Prim.Native.Nat.{_+_, _*_, _≤_};
 ghost use lib.ListN.{length, take};
-ghost use Rattle.report.specs.Appended.{Printed};
+ghost use Rattle.report.specs.Helpers.{Printed};
 ghost use Rattle.settle_run.specs.Program.{endLine, takeByte, takeBytes, takeRead, endInput, endText};
-ghost use Rattle.settle_run.specs.Contracts.{held, Ready, Took, Stopped, Closed};
+ghost use Rattle.settle_run.specs.Helpers.{held, Ready, Took, Stopped, Closed};
 
 const LINE_FEED: u8 = b'\n';
 

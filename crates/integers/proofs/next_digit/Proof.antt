@@ -12,7 +12,7 @@ use mir.Val.{toZ, ofZ}
 use mir.ValLaws.{toZ-ofZ, toZ-pos}
 use Rattle.integers.specs.declared.Quotient.{Quotient}
 use Rattle.integers.specs.Quotient.{floorOf, fractionOf, quotientOf}
-use Rattle.integers.specs.Share.{DigitArguments}
+use Rattle.integers.specs.Helpers.{DigitArguments}
 use Rattle.integers.proofs.Linear.{linear}
 use Rattle.integers.proofs.Ring.{plus-times, times-exchange}
 use Rattle.integers.proofs.Size.{plus-bound}

@@ -11,7 +11,7 @@ use mir.Val.{toZ, ofZ}
 use mir.ValLaws.{toZ-ofZ}
 use Rattle.integers.specs.declared.Quotient.{Quotient}
 use Rattle.integers.specs.Quotient.{floorOf, fractionOf, quotientOf}
-use Rattle.integers.specs.Share.{ShareArguments, DigitArguments}
+use Rattle.integers.specs.Helpers.{ShareArguments, DigitArguments}
 use Rattle.integers.proofs.Linear.{linear}
 use Rattle.integers.proofs.Ring.{plus-times, times-exchange}
 use Rattle.integers.proofs.Size.{size-positive}

@@ -5,7 +5,7 @@ use native.Mathlib.Omega.{arith}
 use borrow.Author.Needs.{needs}
 use lib.ListN.{length}
 use Rattle.settle_run.specs.Program.{takeAttempts}
-use Rattle.settle_run.specs.Contracts.{Read}
+use Rattle.settle_run.specs.Helpers.{Read}
 use Rattle.settle_run.proofs.Attempts.{once-more}
 use Rattle.settle_run.proofs.read_all.Statement.{statement}
 use Rattle.settle_run.proofs.read_all.Tie as tie

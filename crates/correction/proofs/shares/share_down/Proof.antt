@@ -9,7 +9,7 @@ use mir.Syntax.{w64}
 use mir.Val.{toZ, ofZ}
 use mir.ValLaws.{toZ-ofZ}
 use Rattle.integers.specs.Quotient.{floorOf, fractionOf, quotientOf}
-use Rattle.integers.specs.Share.{ShareArguments}
+use Rattle.integers.specs.Helpers.{ShareArguments}
 use Rattle.integers.proofs.Fit.{Held, fit, held, plus-fits, plus-held}
 use Rattle.integers.proofs.Size.{size-positive}
 use Rattle.integers.proofs.Floor.{quotient-most}

@@ -1,7 +1,7 @@
 -- `end_input` ends the line that was gathered, if there is one.
 use native.Mathlib.Omega.{arith}
 use borrow.Author.Needs.{needs}
-use Rattle.settle_run.specs.Contracts.{held}
+use Rattle.settle_run.specs.Helpers.{held}
 use Rattle.settle_run.proofs.Steps.{quiet-step}
 use Rattle.settle_run.proofs.Ends.{not-ended, nothing-gathered, last-line}
 use Rattle.settle_run.proofs.lines.end_input.Statement.{statement}

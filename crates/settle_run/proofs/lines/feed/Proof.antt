@@ -4,7 +4,7 @@ use mathlib.Core.Path.{_≡_}
 use native.Mathlib.Omega.{arith}
 use borrow.Author.Needs.{needs}
 use lib.ListN.{length}
-use Rattle.settle_run.specs.Contracts.{held}
+use Rattle.settle_run.specs.Helpers.{held}
 use Rattle.settle_run.proofs.Bytes.{Left, none-taken, one-taken, all-taken}
 use Rattle.settle_run.proofs.lines.feed.Statement.{statement}
 use Rattle.settle_run.proofs.lines.feed.Tie as tie

@@ -1,7 +1,7 @@
 -- `print_allocation` prints the outcome of the allocation, if the whole input was in form.
 use native.Mathlib.Omega.{arith}
 use borrow.Author.Needs.{needs}
-use Rattle.settle_run.specs.Contracts.{held}
+use Rattle.settle_run.specs.Helpers.{held}
 use Rattle.settle_run.proofs.Steps.{printed-nothing}
 use Rattle.settle_run.proofs.Ends.{no-closing, closing}
 use Rattle.settle_run.proofs.lines.print_allocation.Statement.{statement}

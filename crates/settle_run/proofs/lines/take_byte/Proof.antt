@@ -1,7 +1,7 @@
 -- `take_byte` does nothing after the end of the program, ends a line, or gathers a byte.
 use native.Mathlib.Omega.{arith}
 use borrow.Author.Needs.{needs}
-use Rattle.settle_run.specs.Contracts.{held}
+use Rattle.settle_run.specs.Helpers.{held}
 use Rattle.settle_run.proofs.Steps.{quiet-step}
 use Rattle.settle_run.proofs.Bytes.{no-more, line-feed, too-many, one-more}
 use Rattle.settle_run.proofs.lines.take_byte.Statement.{statement}

@@ -4,7 +4,7 @@ use mathlib.Core.Path.{refl}
 use native.Mathlib.Omega.{arith}
 use lib.Seq.{length-take-le}
 use borrow.Author.Needs.{needs}
-use Rattle.settle_run.specs.Contracts.{held}
+use Rattle.settle_run.specs.Helpers.{held}
 use Rattle.settle_run.proofs.Steps.{from-start, printed-nothing, larger}
 use Rattle.settle_run.proofs.Ends.{no-bytes, some-bytes}
 use Rattle.settle_run.proofs.lines.take_read.Statement.{statement}

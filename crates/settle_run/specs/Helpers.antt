@@ -6,7 +6,7 @@ use lib.ListN.{length, take}
 use Rattle.book.specs.Book.{lent}
 use Rattle.period_file.specs.Lines.{lineMost}
 use Rattle.report.specs.Lines.{badLine}
-use Rattle.report.specs.Appended.{Printed}
+use Rattle.report.specs.Helpers.{Printed}
 use Rattle.settle_run.specs.declared.State.{State}
 use Rattle.settle_run.specs.Program.{Work, Step, Attempt, takeAttempt, takeAttempts, freshWork, withPhase, stopped, closingText}
 
