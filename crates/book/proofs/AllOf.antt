@@ -1,7 +1,7 @@
--- A list of settings tested entry by entry: what is left decides, and each entry of one that passes does.
+-- A list of settings tested entry by entry: what was told and what is left decide, and each entry of one that passes does.
 use Prim.Native.Nat.{ℕ, zero, suc, _+_, _≤_, _<_}
 use mathlib.Core.Path.{_≡_, refl, sym, _∙_, ap}
-use mathlib.Core.Bool.{Bool, true, false, _&&_, and-eq-true-iff}
+use mathlib.Core.Bool.{Bool, true, _&&_, and-assoc, and-true, and-eq-true-iff}
 use mathlib.Core.List.{List, [], _∷_}
 use native.Mathlib.Numerals.{add-one}
 use lib.ListN.{length, getD, set, drop, drop-of-length-le}
@@ -9,26 +9,26 @@ use lib.Seq.{drop-cons}
 use Rattle.book.specs.Settings.{allOf}
 
 module _ (test : ℕ → Bool) (xs : List ℕ) where
-  -- the entries from i on decide whether all pass
-  pub record Left (i : ℕ) : Type 0 where
-    pub decide : allOf test xs ≡ allOf test (drop i xs)
+  -- `all` tells of the entries before i, and those from i on decide the rest
+  pub record Left (i : ℕ) (all : Bool) : Type 0 where
+    pub decide : allOf test xs ≡ (all && allOf test (drop i xs))
 
-  pub all-left : Left 0
+  pub all-left : Left 0 true
   all-left = record { decide = refl }
 
-  pub next-left : (i : ℕ) → i < length xs → allOf test (drop i xs) ≡ (test (getD xs i 0) && allOf test (drop (suc i) xs))
+  next-left : (i : ℕ) → i < length xs → allOf test (drop i xs) ≡ (test (getD xs i 0) && allOf test (drop (suc i) xs))
   unfolding allOf
   next-left i h = rw (drop-cons xs i 0) refl
 
-  pub one-passes : (i : ℕ) → i < length xs → Left i → test (getD xs i 0) ≡ true → Left (i + 1)
-  one-passes i h l t = record { decide = rw add-one (l .decide ∙ next-left i h ∙ ap (λ b. b && allOf test (drop (suc i) xs)) t) }
+  pub one-tested : (i : ℕ) {all passes : Bool} → i < length xs → Left i all → passes ≡ test (getD xs i 0) → Left (i + 1) (all && passes)
+  one-tested i {all} h l e =
+      record {
+        decide = rw (add-one, e) (l .decide ∙ ap (λ b. all && b) (next-left i h) ∙ sym (and-assoc all (test (getD xs i 0)) (allOf test (drop (suc i) xs))));
+      }
 
-  pub one-fails : (i : ℕ) → i < length xs → Left i → test (getD xs i 0) ≡ false → false ≡ allOf test xs
-  one-fails i h l t = sym (l .decide ∙ next-left i h ∙ ap (λ b. b && allOf test (drop (suc i) xs)) t)
-
-  pub none-left : (i : ℕ) → length xs ≤ i → Left i → true ≡ allOf test xs
+  pub none-left : (i : ℕ) {all : Bool} → length xs ≤ i → Left i all → all ≡ allOf test xs
   unfolding allOf
-  none-left i h l = sym (l .decide ∙ ap (allOf test) (drop-of-length-le xs h))
+  none-left i {all} h l = sym (l .decide ∙ ap (λ ys. all && allOf test ys) (drop-of-length-le xs h) ∙ and-true all)
 
 -- any entry of numbers that all pass, and what stands for one past the end
 pub entry-passes : (test : ℕ → Bool) (xs : List ℕ) (i d : ℕ) → allOf test xs ≡ true → test d ≡ true → test (getD xs i d) ≡ true

@@ -18,6 +18,10 @@ pub room : (words : List ℕ) (n : ℕ) → n ≤ capacity words → 3 * n ≤ l
 unfolding capacity
 room words n h = omega arith
 
+-- rows that are ready may be searched
+pub ready-to-search : {meters : ℕ} {words : List ℕ} → RowsReady meters words → (3 * meters ≤ length words) × (rowsFormed 0 (rowsOf meters words) ≡ true)
+ready-to-search {meters} {words} r = (room words meters (r .within-capacity), r .formed)
+
 pub record FormedBook (b : Book) : Type 0 where
   pub within : b .settings .meters ≤ capacity (b .rows)
   pub settings-formed : settingsFormed (b .settings) ≡ true

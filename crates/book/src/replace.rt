@@ -6,41 +6,10 @@ use crate::ranges::setting_in_range;
 use refusals::ACCEPTED;
 use refusals::ARGUMENT_OUT_OF_RANGE;
 ghost use mathlib.Core.Path.{_≡_};
-ghost use mathlib.Core.Bool.{true};
-ghost use Rattle.book.specs.Settings.{settingInRange, withSetting};
 ghost use Rattle.book.specs.Helpers.{settingReplaced};
 
-// The settings with one of them replaced. SHAPE_MISSING sets a shape back to missing.
-fn with_setting(settings: Settings, setting: Setting) -> Settings
-    requires { ⌜ settingInRange setting ≡ true ⌝ }
-    ensures { λ r. ⌜ r ≡ withSetting setting settings ⌝ }
-{
-    match setting {
-        Setting::Shape { category, wh } => {
-            let mut made = settings;
-            made.shapes[category as usize] = wh as u32;
-            made
-        }
-        Setting::Weight { class, thousandths } => {
-            let mut made = settings;
-            made.weights[class as usize] = thousandths as u32;
-            made
-        }
-        Setting::Tolerance(g) => {
-            let mut made = settings;
-            made.tolerance = g as u32;
-            made
-        }
-        Setting::GroupTake(wh) => {
-            let mut made = settings;
-            made.take_wh = wh;
-            made.take_set = Settings::TAKE_FLAG_SET;
-            made
-        }
-    }
-}
-
-// Replaces a setting if its value is in range.
+// Replaces a setting if its number and its value are in range. SHAPE_MISSING sets a shape back to missing. All four are replaced in one
+// copy of the settings: a function of its own for that would hand them back in another.
 pub fn replace(settings: Settings, setting: Setting) -> Answer
     ensures { λ r. ⌜ r ≡ settingReplaced setting settings ⌝ }
 {
@@ -50,8 +19,24 @@ pub fn replace(settings: Settings, setting: Setting) -> Answer
             settings,
         };
     }
+    let mut made = settings;
+    match setting {
+        Setting::Shape { category, wh } => {
+            made.shapes[category as usize] = wh as u32;
+        }
+        Setting::Weight { class, thousandths } => {
+            made.weights[class as usize] = thousandths as u32;
+        }
+        Setting::Tolerance(g) => {
+            made.tolerance = g as u32;
+        }
+        Setting::GroupTake(wh) => {
+            made.take_wh = wh;
+            made.take_set = Settings::TAKE_FLAG_SET;
+        }
+    }
     Answer {
         number: ACCEPTED,
-        settings: with_setting(settings, setting),
+        settings: made,
     }
 }

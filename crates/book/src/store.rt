@@ -4,7 +4,6 @@ use crate::Place;
 use crate::Stored;
 use crate::ranges::reading_in_range;
 use crate::ranges::register_in_range;
-use crate::rows::find;
 use crate::rows::insert_row;
 use crate::rows::row_capacity;
 use refusals::ACCEPTED;
@@ -43,8 +42,9 @@ fn not_stored(number: u64, meters: usize) -> Stored
     }
 }
 
-// Stores or replaces a meter's registration, where a search of the rows gave `place`.
-pub fn store_registration_at(
+// Stores or replaces a meter's registration, where a search of the rows gave `place`. It packs in one place and does not search, which
+// keeps it short enough for the compiler to build it into its callers. What is told is then not written to memory where none reads it.
+pub fn store_registration(
     meters: usize,
     place: Place,
     rows: &mut [u64],
@@ -57,12 +57,12 @@ pub fn store_registration_at(
     if !register_in_range(mpan, registration) {
         return not_stored(ARGUMENT_OUT_OF_RANGE, meters);
     }
+    let word = registration.pack();
     let index = place.index;
     let at = 3 * index;
     if place.known {
         let held = rows[at + 1];
         let reading = rows[at + 2];
-        let word = registration.pack();
         rows[at + 1] = word;
         return Stored {
             number: ACCEPTED,
@@ -82,7 +82,6 @@ pub fn store_registration_at(
     if row_capacity(rows) <= meters {
         return not_stored(CAPACITY_REACHED, meters);
     }
-    let word = registration.pack();
     insert_row(&mut rows[at..], meters - index, mpan, word);
     Stored {
         number: ACCEPTED,
@@ -96,22 +95,8 @@ pub fn store_registration_at(
     }
 }
 
-// Stores or replaces a meter's registration.
-pub fn store_registration(
-    meters: usize,
-    rows: &mut [u64],
-    mpan: u64,
-    registration: Registration,
-) -> Stored
-    requires { ⌜ RowsReady meters (now rows) ⌝ }
-    ensures { λ r. ⌜ Stores mpan (registrationStoring (capacity (now (rows .entry))) mpan registration) meters (now (rows .entry)) r (now (rows .exit)) ⌝ }
-{
-    let place = find(rows, meters, mpan);
-    store_registration_at(meters, place, rows, mpan, registration)
-}
-
 // Stores a meter's reading if its issue is above the one held, where a search of the rows gave `place`.
-pub fn store_reading_at(
+pub fn store_reading(
     meters: usize,
     place: Place,
     rows: &mut [u64],
@@ -152,13 +137,4 @@ pub fn store_reading_at(
             reading: word,
         },
     }
-}
-
-// Stores a meter's reading if its issue is above the one held.
-pub fn store_reading(meters: usize, rows: &mut [u64], mpan: u64, reading: Reading) -> Stored
-    requires { ⌜ RowsReady meters (now rows) ⌝ }
-    ensures { λ r. ⌜ Stores mpan (readingStoring mpan reading) meters (now (rows .entry)) r (now (rows .exit)) ⌝ }
-{
-    let place = find(rows, meters, mpan);
-    store_reading_at(meters, place, rows, mpan, reading)
 }

@@ -6,6 +6,7 @@ use book::Settings;
 use book::Stored;
 use book::formed::is_formed;
 use book::replace::replace;
+use book::rows::find;
 use book::store::store_reading;
 use book::store::store_registration;
 use refusals::BOOK_ILL_FORMED;
@@ -41,13 +42,14 @@ pub fn make_call(settings: Settings, rows: &mut [u64], call: Call) -> Answer
     let meters = settings.meters;
     match call {
         Call::Register { mpan, registration } => {
-            counted(
-                settings,
-                store_registration(meters, rows, mpan, registration),
-            )
+            let place = find(rows, meters, mpan);
+            let stored = store_registration(meters, place, rows, mpan, registration);
+            counted(settings, stored)
         }
         Call::Record { mpan, reading } => {
-            counted(settings, store_reading(meters, rows, mpan, reading))
+            let place = find(rows, meters, mpan);
+            let stored = store_reading(meters, place, rows, mpan, reading);
+            counted(settings, stored)
         }
         Call::Set(setting) => replace(settings, setting),
     }

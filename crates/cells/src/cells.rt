@@ -1,6 +1,6 @@
 // From meters to cells: one pass over the rows.
+use crate::meters::ACTUAL;
 use crate::meters::class;
-use crate::meters::estimate;
 use crate::meters::use_of;
 ghost use mathlib.Core.Path.{_≡_};
 ghost use Prim.Native.Nat.{_+_};
@@ -20,6 +20,7 @@ fn add_meter(cells: &mut [[i64; 24]; 32], unit: usize, class: usize, wh: u64, ll
 }
 
 // One pass over the first n rows: the cells before losses are rounded, the four counts, and whether a defaulted meter lacks its shape.
+// e is decided here and not in a function of its own, so that the compiler joins the branch with those that decide the source.
 pub fn gather(
     rows: &[u64],
     n: usize,
@@ -37,7 +38,8 @@ pub fn gather(
         let reading = rows[3 * i + 2];
         let meter = use_of(shapes, registration, reading);
         let unit = words::unit(registration) as usize;
-        let at = class(registration, estimate(meter.source)) as usize;
+        let e = if meter.source == ACTUAL { 0 } else { 1 };
+        let at = class(registration, e) as usize;
         add_meter(cells, unit, at, meter.wh, words::llf(registration));
         let from = meter.source as usize;
         counts[from] = counts[from] + 1;

@@ -7,7 +7,7 @@ ghost use lib.ListN.{length};
 ghost use Rattle.book.specs.Limits.{categories};
 ghost use Rattle.cells.specs.Energy.{readingSource, usedDeEnergised, sourceOf};
 ghost use Rattle.cells.specs.Cells.{classOf};
-ghost use Rattle.cells.specs.Helpers.{sourceNumber, estimateOf, useOf};
+ghost use Rattle.cells.specs.Helpers.{sourceNumber, useOf};
 
 // Where a meter's energy comes from, in the order of the four counts.
 pub const ACTUAL: u64 = 0;
@@ -94,13 +94,6 @@ pub fn use_of(shapes: &[u32; 64], registration: u64, reading: u64) -> Use
         wh: shape,
         lacks: false,
     }
-}
-
-// e of a meter's class: 0 if its energy is an actual reading, else 1.
-pub fn estimate(from: u64) -> u64
-    ensures { λ r. ⌜ r ≡ estimateOf from ⌝ }
-{
-    if from == ACTUAL { 0 } else { 1 }
 }
 
 // The class of a meter's consumption, from its registration and e.

@@ -6,9 +6,7 @@ use book::rows::find;
 use book::rows::find_near;
 use book::rows::row_capacity;
 use book::store::store_reading;
-use book::store::store_reading_at;
 use book::store::store_registration;
-use book::store::store_registration_at;
 use words::Reading;
 use words::Registration;
 ghost use mathlib.Core.Path.{_≡_};
@@ -45,12 +43,13 @@ pub fn register_apart(
 {
     let place = find(rows, first, mpan);
     if place.known {
-        let stored = store_registration_at(first, place, rows, mpan, registration);
+        let stored = store_registration(first, place, rows, mpan, registration);
         return stored_first(later, stored);
     }
     let start = 3 * first;
     let end = 3 * row_capacity(rows);
-    store_registration(later, &mut rows[start..end], mpan, registration)
+    let place = find(&rows[start..end], later, mpan);
+    store_registration(later, place, &mut rows[start..end], mpan, registration)
 }
 
 // Stores a meter's reading if its issue is above the one held, where a search of the first part gave `held`.
@@ -66,12 +65,13 @@ fn reading_found(
     ensures { λ r. ⌜ StoresApart mpan (readingStoring mpan reading) first later (now (rows .entry)) r (now (rows .exit)) ⌝ }
 {
     if held.known {
-        let stored = store_reading_at(first, held, rows, mpan, reading);
+        let stored = store_reading(first, held, rows, mpan, reading);
         return stored_first(later, stored);
     }
     let start = 3 * first;
     let end = 3 * row_capacity(rows);
-    store_reading(later, &mut rows[start..end], mpan, reading)
+    let place = find(&rows[start..end], later, mpan);
+    store_reading(later, place, &mut rows[start..end], mpan, reading)
 }
 
 // Stores a meter's reading if its issue is above the one held. Row `near` is tried before the search. Nothing is said of the row to

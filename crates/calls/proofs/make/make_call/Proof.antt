@@ -4,7 +4,8 @@ use mathlib.Core.Bool.{true}
 use borrow.Author.Tests.{not-true, not-false}
 use borrow.Author.Needs.{needs}
 use Rattle.book.specs.Book.{lent, wellFormed}
-use Rattle.book.proofs.WellFormed.{rows-ready}
+use Rattle.book.specs.Helpers.{RowsReady}
+use Rattle.book.proofs.WellFormed.{rows-ready, ready-to-search}
 use Rattle.calls.proofs.Answers.{gives-ill-formed, gives-replaced, gives-registered, gives-recorded}
 use Rattle.calls.proofs.make.make_call.Statement.{statement}
 use Rattle.calls.proofs.make.make_call.Tie as tie
@@ -15,6 +16,9 @@ start c = c .before .before .before .before
 
 formed : (c : tie.Else1) → wellFormed (lent (start c .args .settings) (start c .args .rows .now)) ≡ true
 formed c = sym (c .before .is-formed .ensures) ∙ not-false _ (c .if1 .left)
+
+ready : (c : tie.Else1) → RowsReady (start c .args .settings .meters) (start c .args .rows .now)
+ready c = rows-ready _ _ (formed c)
 
 is-formed-requires : tie.Need-is-formed-requires
 is-formed-requires c κs = search needs
@@ -28,8 +32,11 @@ returns c = gives-ill-formed _ _ (sym (c .before .is-formed .ensures) ∙ not-tr
 enum-known-call : tie.Need-enum-known-call
 enum-known-call c = search needs
 
+find-requires : tie.Need-find-requires
+find-requires c κs = ready-to-search (ready (c .before .before .before .before))
+
 store-registration-requires : tie.Need-store-registration-requires
-store-registration-requires c κs = rows-ready _ _ (formed (c .before .before .before .before))
+store-registration-requires c κs = (ready (c .before .before .before .before .before .before), c .before .find .ensures)
 
 counted-requires : tie.Need-counted-requires
 counted-requires c κs = search needs
@@ -37,8 +44,11 @@ counted-requires c κs = search needs
 enum-known-call-2 : tie.Need-enum-known-call-2
 enum-known-call-2 c = search needs
 
+find-requires-2 : tie.Need-find-requires-2
+find-requires-2 c κs = ready-to-search (ready (c .before .before .before .before))
+
 store-reading-requires : tie.Need-store-reading-requires
-store-reading-requires c κs = rows-ready _ _ (formed (c .before .before .before .before))
+store-reading-requires c κs = (ready (c .before .before .before .before .before .before), c .before .find2 .ensures)
 
 counted-requires-2 : tie.Need-counted-requires-2
 counted-requires-2 c κs = search needs
@@ -54,8 +64,8 @@ same-length-2 c = search needs
 
 returns-2 : tie.Need-returns-2
 returns-2 c =
-    let e = c .before .before .before .before .before .before .before .before in
-    rw (c .before .before .before .before .before .before .call .given .1, c .counted .ensures)
+    let e = c .before .before .before .before .before .before .before .before .before .before in
+    rw (c .before .before .before .before .before .before .before .before .call .given .1, c .counted .ensures)
     (gives-registered _ _ (formed e) _ _ (c .before .before .before .store-registration .ensures))
 
 same-length-3 : tie.Need-same-length-3
@@ -63,8 +73,8 @@ same-length-3 c = search needs
 
 returns-3 : tie.Need-returns-3
 returns-3 c =
-    let e = c .before .before .before .before .before .before .before .before in
-    rw (c .before .before .before .before .before .before .call2 .given .1, c .counted2 .ensures)
+    let e = c .before .before .before .before .before .before .before .before .before .before in
+    rw (c .before .before .before .before .before .before .before .before .call2 .given .1, c .counted2 .ensures)
     (gives-recorded _ _ (formed e) _ _ (c .before .before .before .store-reading .ensures))
 
 same-length-4 : tie.Need-same-length-4
@@ -83,9 +93,11 @@ make-call-spec =
     same-length
     returns
     enum-known-call
+    find-requires
     store-registration-requires
     counted-requires
     enum-known-call-2
+    find-requires-2
     store-reading-requires
     counted-requires-2
     enum-known-call-3

@@ -2,9 +2,11 @@
 use Prim.Native.Nat.{ℕ, _+_, _*_, _-_, _≤_, _<_}
 use mathlib.Core.Path.{_≡_, refl, sym, _∙_}
 use mathlib.Core.Bool.{Bool, false, _||_}
+use mathlib.Core.Logic.{⊎-elim}
 use mathlib.Core.List.{List}
 use native.Mathlib.Omega.{arith}
 use borrow.Author.Needs.{needs}
+use borrow.Author.Tests.{eq-eqb, ne-eqb}
 use lib.IntN.{ℤ, pos, natAbs, _-ℤ_, _*ℤ_}
 use lib.ListN.{getD, set}
 use Rattle.integers.specs.Sum.{sum}
@@ -138,24 +140,29 @@ use-of-requires c κs = c .before .before .before .before .before .pre .shapes-l
 unit-requires : tie.Need-unit-requires Inv-loop μ-loop
 unit-requires c κs = search needs
 
-estimate-requires : tie.Need-estimate-requires Inv-loop μ-loop
-estimate-requires c κs = search needs
+-- e, whichever way the test of the source went
+estimate-is : (c : tie.Joined1 Inv-loop μ-loop) → c .if1 .e ≡ estimateOf (c .before .before .before .use-of .result .source)
+estimate-is c =
+    ⊎-elim
+    (λ w. w .1 ∙ rw (eq-eqb _ 0 (w .0 .taken)))
+    (λ w. w .1 ∙ rw (ne-eqb _ 0 (w .0 .left)))
+    (c .if1 .came)
 
 class-requires : tie.Need-class-requires Inv-loop μ-loop
-class-requires c κs = rw (c .estimate .ensures) (estimate-few (c .before .before .use-of .result .source))
+class-requires c κs = rw (estimate-is c) (estimate-few (c .before .before .before .use-of .result .source))
 
 llf-requires : tie.Need-llf-requires Inv-loop μ-loop
 llf-requires c κs = search needs
 
 -- where the LLF has been taken out: what was known of the row before
 abbrev used : tie.After-llf Inv-loop μ-loop → tie.After-use-of Inv-loop μ-loop
-used c = c .before .before .before .before .before
+used c = c .before .before .before .before .before .before
 
 add-meter-requires : tie.Need-add-meter-requires Inv-loop μ-loop
 add-meter-requires c κs =
     let u = used c in
     turn-asks _ _ _ (u .before .before .before .before .before .before .pre) _ (u .before .before .before .loop-test .taken) (u .before .before .before .before .loop .inv .1)
-    (c .before .before .before .before .unit .ensures) (u .use-of .ensures) (class-is _ _ _ (u .use-of .ensures) (c .before .before .before .estimate .ensures) (c .before .before .class .ensures)) (c .llf .ensures)
+    (c .before .before .before .before .before .unit .ensures) (u .use-of .ensures) (class-is _ _ _ (u .use-of .ensures) (estimate-is (c .before .before .before)) (c .before .before .class .ensures)) (c .llf .ensures)
 
 -- the count that a turn increases
 counted : (c : tie.After-add-meter Inv-loop μ-loop) → let u = used (c .before) in (u .use-of .result .source < 4) × (getD (u .before .before .before .before .loop .counts) (u .use-of .result .source) 0 ≤ u .before .before .before .before .loop .i)
@@ -190,7 +197,7 @@ loop-again c =
     let u = used l in (
       omega arith,
       turn-gives _ _ _ (u .before .before .before .before .before .before .pre) _ (u .before .before .before .loop-test .taken) (u .before .before .before .before .loop .inv .1)
-          (l .before .before .before .before .unit .ensures) (u .use-of .ensures) (class-is _ _ _ (u .use-of .ensures) (l .before .before .before .estimate .ensures) (l .before .before .class .ensures)) (l .llf .ensures)
+          (l .before .before .before .before .before .unit .ensures) (u .use-of .ensures) (class-is _ _ _ (u .use-of .ensures) (estimate-is (l .before .before .before)) (l .before .before .class .ensures)) (l .llf .ensures)
           (c .before .before .add-meter .ensures),
     )
 
@@ -216,7 +223,6 @@ gather-spec =
     shared-slice-read-reading
     use-of-requires
     unit-requires
-    estimate-requires
     class-requires
     llf-requires
     add-meter-requires

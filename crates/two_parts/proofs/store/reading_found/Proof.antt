@@ -1,12 +1,14 @@
 -- `reading_found` leaves what storing a reading leaves in the parts merged: in the first part or in the later rows. Assumes nothing.
-use Prim.Native.Nat.{_+_, _*_, _≤_}
+use Prim.Native.Nat.{_+_, _-_, _*_, _≤_}
 use mathlib.Core.Path.{_≡_, sym, _∙_, ap}
 use native.Mathlib.Omega.{arith}
 use borrow.Author.Needs.{needs}
+use borrow.Rule.Slice.PartMut.{midOf}
 use lib.ListN.{length}
 use Rattle.book.specs.declared.Place.{Place}
 use Rattle.book.specs.Rows.{rowsOf, isKnown}
-use Rattle.book.proofs.WellFormed.{room}
+use Rattle.book.specs.Helpers.{RowsReady}
+use Rattle.book.proofs.WellFormed.{room, ready-to-search}
 use Rattle.two_parts.proofs.LaterStored.{lent-ready}
 use Rattle.two_parts.proofs.RecordedApart.{recorded-first, recorded-later}
 use Rattle.two_parts.proofs.store.reading_found.Statement.{statement}
@@ -18,15 +20,22 @@ known-is c = ap (λ (p : Place). p .known) (c .pre .1)
 has-room : (c : tie.Start) → 3 * (c .args .first + c .args .later) ≤ length (c .args .rows .now)
 has-room c = room (c .args .rows .now) (c .args .first + c .args .later) (c .pre .0 .within-capacity)
 
--- where the meter is not in the first part: the later rows end within the slice
+-- where the meter is not in the first part: the later rows end within the slice, and may be searched and written
 abbrev missed : tie.After-row-capacity → tie.Start
 missed c = c .before .before .before .before
 
 end-within : (c : tie.After-row-capacity) → 3 * c .row-capacity .result ≤ length (missed c .args .rows .now)
 end-within c = room (missed c .args .rows .now) (c .row-capacity .result) (omega (arith, c .row-capacity .ensures))
 
-store-reading-at-requires : tie.Need-store-reading-at-requires
-store-reading-at-requires c κs = search needs
+ready : (c : tie.After-row-capacity) → let s = missed c in RowsReady (s .args .later) (midOf (3 * s .args .first) (3 * c .row-capacity .result - 3 * s .args .first) (s .args .rows .now))
+ready c = lent-ready _ _ _ (missed c .pre .0) (c .row-capacity .ensures)
+
+-- where the later rows have been searched
+abbrev searched : tie.After-find → tie.After-row-capacity
+searched c = c .before .before .before
+
+store-reading-requires : tie.Need-store-reading-requires
+store-reading-requires c κs = search needs
 
 stored-first-requires : tie.Need-stored-first-requires
 stored-first-requires c κs = search needs
@@ -39,7 +48,7 @@ returns c =
     let t = c .before .before .before .before .before in
     let s = t .before .before in
     rw (c .stored-first .ensures)
-    (recorded-first _ _ _ (s .pre .0) _ _ (sym (known-is s) ∙ t .if1 .taken) (c .before .before .before .store-reading-at .ensures))
+    (recorded-first _ _ _ (s .pre .0) _ _ (sym (known-is s) ∙ t .if1 .taken) (c .before .before .before .store-reading .ensures))
 
 mul-start : tie.Need-mul-start
 mul-start c = omega (arith, has-room (c .before .before), c .before .before .good)
@@ -50,8 +59,23 @@ row-capacity-requires c κs = search needs
 mul-end : tie.Need-mul-end
 mul-end c = omega (arith, end-within c, missed c .good)
 
+mul-find : tie.Need-mul-find
+mul-find c = omega (arith, has-room (missed c), missed c .good)
+
+sub-find : tie.Need-sub-find
+sub-find c = search needs
+
+part-find-start : tie.Need-part-find-start
+part-find-start c = search needs
+
+part-find-end : tie.Need-part-find-end
+part-find-end c = omega (arith, end-within (c .before))
+
+find-requires : tie.Need-find-requires
+find-requires c κs = ready-to-search (ready (c .before .before))
+
 mul-store-reading : tie.Need-mul-store-reading
-mul-store-reading c = omega (arith, has-room (missed c), missed c .good)
+mul-store-reading c = omega (arith, has-room (missed (searched c)), missed (searched c) .good)
 
 sub-store-reading : tie.Need-sub-store-reading
 sub-store-reading c = search needs
@@ -60,35 +84,40 @@ part-store-reading-start : tie.Need-part-store-reading-start
 part-store-reading-start c = search needs
 
 part-store-reading-end : tie.Need-part-store-reading-end
-part-store-reading-end c = omega (arith, end-within c)
+part-store-reading-end c = omega (arith, end-within (searched c))
 
-store-reading-requires : tie.Need-store-reading-requires
-store-reading-requires c κs = lent-ready _ _ _ (missed (c .before) .pre .0) (c .before .row-capacity .ensures)
+store-reading-requires-2 : tie.Need-store-reading-requires-2
+store-reading-requires-2 c κs = (ready (searched (c .before)), c .before .find .ensures)
 
 same-length-2 : tie.Need-same-length-2
 same-length-2 c = search needs
 
 returns-2 : tie.Need-returns-2
 returns-2 c =
-    let r = c .before .before .before .before in
+    let r = searched (c .before .before .before .before) in
     let s = missed r in
-    recorded-later _ _ _ (s .pre .0) _ _ (sym (known-is s) ∙ r .before .before .if1 .left) (r .row-capacity .ensures) (c .before .before .store-reading .ensures)
+    recorded-later _ _ _ (s .pre .0) _ _ (sym (known-is s) ∙ r .before .before .if1 .left) (r .row-capacity .ensures) (c .before .before .store-reading2 .ensures)
 
 pub reading-found-spec : {M : Type 1} → statement M
 reading-found-spec =
     tie.close
     (tie.spec
-    store-reading-at-requires
+    store-reading-requires
     stored-first-requires
     same-length
     returns
     mul-start
     row-capacity-requires
     mul-end
+    mul-find
+    sub-find
+    part-find-start
+    part-find-end
+    find-requires
     mul-store-reading
     sub-store-reading
     part-store-reading-start
     part-store-reading-end
-    store-reading-requires
+    store-reading-requires-2
     same-length-2
     returns-2)
