@@ -7,9 +7,10 @@ use native.Mathlib.Omega.{arith}
 use borrow.Rule.Slice.PartMut.{midOf, put-same}
 use lib.ListN.{length, drop}
 use Rattle.refusals.specs.Causes.{accepted}
+use Rattle.book.specs.declared.Place.{Place}
 use Rattle.book.specs.declared.Stored.{Stored}
 use Rattle.book.specs.Rows.{Row, capacity, rowsOf, written, rowsFormed, isKnown}
-use Rattle.book.specs.Helpers.{heldIn, Storing, storing, notStored, storedBy, RowsReady, Stores}
+use Rattle.book.specs.Helpers.{placeIn, heldIn, Storing, storing, notStored, storedBy, RowsReady, Stores}
 use Rattle.book.proofs.BookFormed.{capacity-same}
 use Rattle.book.proofs.RowsOf.{length-rows}
 use Rattle.book.proofs.WellFormed.{room}
@@ -48,9 +49,10 @@ module _ (first later : ℕ) (words : List ℕ) (ready : PartsReady first later 
         formed = rw lent-rows (ready .later-formed);
       }
 
-  -- the part up to a number of rows that is the capacity
-  pub lent-ready : {cap : ℕ} → cap ≡ capacity words → RowsReady later (midOf (3 * first) (3 * cap - 3 * first) words)
-  lent-ready e = rw e part-ready
+  -- the part up to a number of rows that is the capacity, and a place found among the later rows
+  pub lent-place : (m : ℕ) {cap : ℕ} {place : Place} → cap ≡ capacity words → place ≡ placeIn m (laterRows first later words)
+      → let part = midOf (3 * first) (3 * cap - 3 * first) words in RowsReady later part × (place ≡ placeIn m (rowsOf later part))
+  lent-place m e p = rw e (part-ready, p ∙ ap (placeIn m) (sym lent-rows))
 
   -- other later rows written in the part
   module _ (rows : List Row) (r : Replaces first later words rows) where

@@ -12,7 +12,7 @@ use words::Registration;
 ghost use mathlib.Core.Path.{_≡_};
 ghost use Rattle.book.specs.Rows.{capacity, rowsOf};
 ghost use Rattle.book.specs.Helpers.{placeIn, registrationStoring, readingStoring};
-ghost use Rattle.two_parts.specs.TwoParts.{PartsReady, storedFirst, StoresApart};
+ghost use Rattle.two_parts.specs.TwoParts.{laterRows, PartsReady, storedFirst, StoresApart};
 
 // What storing in the first part gives, with the rows of the second part counted, which stay as many.
 fn stored_first(later: usize, stored: Stored) -> Stored
@@ -26,6 +26,15 @@ fn stored_first(later: usize, stored: Stored) -> Stored
         before,
         after,
     }
+}
+
+// Where a meter's row stands or is to stand among those of the second part, and whether it is there.
+fn find_later(first: usize, later: usize, rows: &[u64], mpan: u64) -> Place
+    requires { ⌜ PartsReady first later (now rows) ⌝ }
+    ensures { λ r. ⌜ r ≡ placeIn mpan (laterRows first later (now (rows .entry))) ⌝ }
+{
+    let start = 3 * first;
+    find(&rows[start..], later, mpan)
 }
 
 // Stores or replaces a meter's registration; the answer's meters are the rows of the second part then. A meter of the first
@@ -46,9 +55,9 @@ pub fn register_apart(
         let stored = store_registration(first, place, rows, mpan, registration);
         return stored_first(later, stored);
     }
+    let place = find_later(first, later, rows, mpan);
     let start = 3 * first;
     let end = 3 * row_capacity(rows);
-    let place = find(&rows[start..end], later, mpan);
     store_registration(later, place, &mut rows[start..end], mpan, registration)
 }
 
@@ -68,9 +77,9 @@ fn reading_found(
         let stored = store_reading(first, held, rows, mpan, reading);
         return stored_first(later, stored);
     }
+    let place = find_later(first, later, rows, mpan);
     let start = 3 * first;
     let end = 3 * row_capacity(rows);
-    let place = find(&rows[start..end], later, mpan);
     store_reading(later, place, &mut rows[start..end], mpan, reading)
 }
 

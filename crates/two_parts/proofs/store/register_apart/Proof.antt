@@ -1,15 +1,13 @@
 -- `register_apart` leaves what storing a registration leaves in the parts merged: in the first part or in the later rows. Assumes nothing.
-use Prim.Native.Nat.{_+_, _-_, _*_, _≤_}
+use Prim.Native.Nat.{_+_, _*_, _≤_}
 use mathlib.Core.Path.{_≡_, sym, _∙_, ap}
 use native.Mathlib.Omega.{arith}
 use borrow.Author.Needs.{needs}
-use borrow.Rule.Slice.PartMut.{midOf}
 use lib.ListN.{length}
 use Rattle.book.specs.declared.Place.{Place}
 use Rattle.book.specs.Rows.{rowsOf, isKnown}
-use Rattle.book.specs.Helpers.{RowsReady}
-use Rattle.book.proofs.WellFormed.{room, ready-to-search}
-use Rattle.two_parts.proofs.LaterStored.{lent-ready}
+use Rattle.book.proofs.WellFormed.{room}
+use Rattle.two_parts.proofs.LaterStored.{lent-place}
 use Rattle.two_parts.proofs.RegisteredApart.{registered-there, registered-apart}
 use Rattle.two_parts.proofs.store.register_apart.Statement.{statement}
 use Rattle.two_parts.proofs.store.register_apart.Tie as tie
@@ -24,19 +22,12 @@ known-is c = ap (λ (p : Place). p .known) (c .find .ensures)
 has-room : (c : tie.Start) → 3 * (c .args .first + c .args .later) ≤ length (c .args .rows .now)
 has-room c = room (c .args .rows .now) (c .args .first + c .args .later) (c .pre .within-capacity)
 
--- where the meter is not in the first part: the later rows end within the slice, and may be searched and written
+-- where the meter is not in the first part: the later rows end within the slice
 abbrev missed : tie.After-row-capacity → tie.After-find
-missed c = c .before .before .before
+missed c = c .before .before .before .before .before
 
 end-within : (c : tie.After-row-capacity) → 3 * c .row-capacity .result ≤ length (start (missed c) .args .rows .now)
 end-within c = room (start (missed c) .args .rows .now) (c .row-capacity .result) (omega (arith, c .row-capacity .ensures))
-
-ready : (c : tie.After-row-capacity) → let s = start (missed c) in RowsReady (s .args .later) (midOf (3 * s .args .first) (3 * c .row-capacity .result - 3 * s .args .first) (s .args .rows .now))
-ready c = lent-ready _ _ _ (start (missed c) .pre) (c .row-capacity .ensures)
-
--- where the later rows have been searched
-abbrev searched : tie.After-find2 → tie.After-row-capacity
-searched c = c .before .before .before
 
 find-requires : tie.Need-find-requires
 find-requires c κs =
@@ -58,8 +49,11 @@ returns c =
     rw (c .stored-first .ensures)
     (registered-there _ _ _ (start (t .before) .pre) _ _ (sym (known-is (t .before)) ∙ t .if1 .taken) (c .before .before .before .store-registration .ensures))
 
+find-later-requires : tie.Need-find-later-requires
+find-later-requires c κs = start (c .before .before) .pre
+
 mul-start : tie.Need-mul-start
-mul-start c = omega (arith, has-room (start (c .before)), start (c .before) .good)
+mul-start c = omega (arith, has-room (start (c .before .before .before)), start (c .before .before .before) .good)
 
 row-capacity-requires : tie.Need-row-capacity-requires
 row-capacity-requires c κs = search needs
@@ -67,23 +61,8 @@ row-capacity-requires c κs = search needs
 mul-end : tie.Need-mul-end
 mul-end c = omega (arith, end-within c, start (missed c) .good)
 
-mul-find : tie.Need-mul-find
-mul-find c = omega (arith, has-room (start (missed c)), start (missed c) .good)
-
-sub-find : tie.Need-sub-find
-sub-find c = search needs
-
-part-find-start : tie.Need-part-find-start
-part-find-start c = search needs
-
-part-find-end : tie.Need-part-find-end
-part-find-end c = omega (arith, end-within (c .before))
-
-find-requires-2 : tie.Need-find-requires-2
-find-requires-2 c κs = ready-to-search (ready (c .before .before))
-
 mul-store-registration : tie.Need-mul-store-registration
-mul-store-registration c = omega (arith, has-room (start (missed (searched c))), start (missed (searched c)) .good)
+mul-store-registration c = omega (arith, has-room (start (missed c)), start (missed c) .good)
 
 sub-store-registration : tie.Need-sub-store-registration
 sub-store-registration c = search needs
@@ -92,18 +71,20 @@ part-store-registration-start : tie.Need-part-store-registration-start
 part-store-registration-start c = search needs
 
 part-store-registration-end : tie.Need-part-store-registration-end
-part-store-registration-end c = omega (arith, end-within (searched c))
+part-store-registration-end c = omega (arith, end-within c)
 
 store-registration-requires-2 : tie.Need-store-registration-requires-2
-store-registration-requires-2 c κs = (ready (searched (c .before)), c .before .find2 .ensures)
+store-registration-requires-2 c κs =
+    let r = c .before in
+    lent-place _ _ _ (start (missed r) .pre) _ (r .row-capacity .ensures) (r .before .before .find-later .ensures)
 
 same-length-2 : tie.Need-same-length-2
 same-length-2 c = search needs
 
 returns-2 : tie.Need-returns-2
 returns-2 c =
-    let r = searched (c .before .before .before .before) in
-    registered-apart _ _ _ (start (missed r) .pre) _ _ (sym (known-is (missed r)) ∙ r .before .before .if1 .left) (r .row-capacity .ensures) (c .before .before .store-registration2 .ensures)
+    let r = c .before .before .before .before in
+    registered-apart _ _ _ (start (missed r) .pre) _ _ (sym (known-is (missed r)) ∙ r .before .before .before .before .if1 .left) (r .row-capacity .ensures) (c .before .before .store-registration2 .ensures)
 
 pub register-apart-spec : {M : Type 1} → statement M
 register-apart-spec =
@@ -114,14 +95,10 @@ register-apart-spec =
     stored-first-requires
     same-length
     returns
+    find-later-requires
     mul-start
     row-capacity-requires
     mul-end
-    mul-find
-    sub-find
-    part-find-start
-    part-find-end
-    find-requires-2
     mul-store-registration
     sub-store-registration
     part-store-registration-start
