@@ -45,7 +45,7 @@ fn all_within(xs: &[u32], most: u64, other: u64) -> bool
 }
 
 // Whether each setting is one that accepted calls could have written.
-pub fn settings_formed(s: Settings) -> bool
+fn settings_formed(s: Settings) -> bool
     ensures { λ r. ⌜ r ≡ settingsFormed s ⌝ }
 {
     let weights = s.weights;
@@ -72,7 +72,7 @@ fn row_rises(before: u64, mpan: u64, registration: u64, reading: u64) -> bool
 
 // Whether the first n rows are well formed and rise strictly. Rows that rise from below the least MPAN up to one that is in range
 // are all in range.
-pub fn rows_formed(rows: &[u64], n: usize) -> bool
+fn rows_formed(rows: &[u64], n: usize) -> bool
     requires { ⌜ 3 * n ≤ length (now rows) ⌝ }
     ensures { λ r. ⌜ r ≡ rowsFormed 0 (rowsOf n (now (rows .entry))) ⌝ }
 {

@@ -8,13 +8,13 @@ ghost use Rattle.book.specs.declared.Setting.the-variants.{Shape, Weight
 ghost use Rattle.book.specs.Settings.{isWeight, isShape, isTolerance, isTake, settingInRange};
 ghost use Rattle.book.specs.Store.{registerInRange, readingCallInRange};
 
-pub fn is_weight(thousandths: u64) -> bool
+fn is_weight(thousandths: u64) -> bool
     ensures { λ r. ⌜ r ≡ isWeight thousandths ⌝ }
 {
     thousandths <= Settings::WEIGHT_MAX
 }
 
-pub fn is_shape(wh: u64) -> bool
+fn is_shape(wh: u64) -> bool
     ensures { λ r. ⌜ r ≡ isShape wh ⌝ }
 {
     (wh <= Settings::SHAPE_MAX) | (wh == Settings::SHAPE_MISSING)

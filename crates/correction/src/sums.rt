@@ -26,7 +26,7 @@ fn signed(x: u32) -> i64
 }
 
 // n and a of a unit, from its cells before rounding and the weights. The classes go in pairs of one direction: consumption, and its losses.
-pub fn unit_sums(cells: &[[i64; 24]; 32], unit: usize, weights: &[u32; 24]) -> UnitSums
+fn unit_sums(cells: &[[i64; 24]; 32], unit: usize, weights: &[u32; 24]) -> UnitSums
     requires { ⌜ unit < 32 ⌝ ∗ ⌜ UnitArguments (getD (now cells) unit []) (now weights) ⌝ }
     ensures { λ r. ⌜ r ≡ sumsOf (getD (now (cells .entry)) unit []) (now (weights .entry)) ⌝ }
 {

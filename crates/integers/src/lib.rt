@@ -15,7 +15,7 @@ pub struct Quotient {
 
 // x / d rounded toward minus infinity, and the fraction above it. The processor's quotient is toward zero: where its remainder is
 // below 0, the floor is one less and the fraction d more. The compiler makes both without a branch.
-pub fn floor_quotient(x: i64, d: i64) -> Quotient
+fn floor_quotient(x: i64, d: i64) -> Quotient
     requires { ⌜ pos 0 <ℤ d ⌝ }
     ensures { λ r. ⌜ r ≡ quotientOf x (natAbs d) ⌝ }
 {
