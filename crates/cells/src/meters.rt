@@ -20,7 +20,7 @@ pub const IDLE: u64 = 3;
 
 const DE_ENERGISED: u64 = 1;
 
-const ENERGISED: u64 = 2;
+pub const ENERGISED: u64 = 2;
 
 // Where the energy of a reading in use comes from, by its quality code.
 fn reading_source(reading: u64) -> u64

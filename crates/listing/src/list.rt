@@ -14,11 +14,11 @@ use two_parts::store::reading_apart;
 use two_parts::store::register_apart;
 use words::Reading;
 use words::Registration;
+use words::fill;
 ghost use mathlib.Core.Path.{_≡_};
 ghost use mathlib.Core.Bool.{true};
-ghost use mathlib.Core.List.{_++_};
 ghost use Prim.Native.Nat.{_/_, _≤_};
-ghost use lib.ListN.{length, drop, replicate};
+ghost use lib.ListN.{length};
 ghost use Rattle.refusals.specs.Causes.{accepted};
 ghost use Rattle.book.specs.Rows.{capacity};
 ghost use Rattle.book.specs.Book.{wellFormed, lent};
@@ -56,18 +56,6 @@ fn signed_of(w: u64) -> i64
         w as i64
     } else {
         -1 - (MINUS_ONE - w) as i64
-    }
-}
-
-// The first `count` numbers replaced by one number.
-fn fill(numbers: &mut [u64], count: usize, number: u64)
-    requires { ⌜ count ≤ length (now numbers) ⌝ }
-    ensures { λ r. ⌜ now (numbers .exit) ≡ replicate count number ++ drop count (now (numbers .entry)) ⌝ }
-{
-    let mut i = 0;
-    while i < count {
-        numbers[i] = number;
-        i += 1;
     }
 }
 

@@ -120,6 +120,8 @@ meter mpan segment direction base llf =
       additional = 0;
       category = 0;
       llf = llf;
+      network = 0;
+      tariff = 0;
     })
 
 -- a reading of code 0 and issue 1

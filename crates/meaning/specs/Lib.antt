@@ -3,3 +3,4 @@ pub mod Meaning
 pub mod Moves
 pub mod Demand
 pub mod Cases
+pub mod Charges

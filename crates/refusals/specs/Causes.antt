@@ -35,6 +35,10 @@ weightedBelowOne = 10
 abbrev pub toleranceExceeded : ℕ
 toleranceExceeded = 11
 
+-- document 02, request 1: "12, after 2, for a totals slice shorter than 4,096"
+abbrev pub totalsShort : ℕ
+totalsShort = 12
+
 -- a calls slice that is no whole number of calls, or a numbers slice that is too short
 abbrev pub listMisshapen : ℕ
 listMisshapen = 19

@@ -23,5 +23,7 @@ pub const WEIGHTED_BELOW_ONE: u64 = 10;
 
 pub const TOLERANCE_EXCEEDED: u64 = 11;
 
+pub const TOTALS_SHORT: u64 = 12;
+
 // A calls slice that is no whole number of calls, or a numbers slice that is too short.
 pub const LIST_MISSHAPEN: u64 = 19;

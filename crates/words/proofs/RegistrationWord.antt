@@ -7,8 +7,8 @@ use native.Mathlib.Omega.{arith}
 use lib.Dec.{leb, eqb}
 use borrow.Author.Tests.{le-leb, leb-true, eq-eqb, ne-eqb, eqb-true, eqb-false}
 use Rattle.words.specs.declared.Registration.{Registration}
-use Rattle.words.specs.Limits.{segmentMost, directionMost, statusMost, unitMost, categoryMost, llfLeast, llfMost}
-use Rattle.words.specs.Registration.{bitField, segmentOf, directionOf, statusOf, baseOf, flagOf, additionalOf, categoryOf, llfOf, unitOf, registrationOf, registrationWord, registrationInRange, isRegistration, additionalInRange}
+use Rattle.words.specs.Limits.{segmentMost, directionMost, statusMost, unitMost, categoryMost, llfLeast, llfMost, networkMost, tariffMost}
+use Rattle.words.specs.Registration.{bitField, segmentOf, directionOf, statusOf, baseOf, flagOf, additionalOf, categoryOf, llfOf, networkOf, tariffOf, unitOf, registrationOf, registrationWord, registrationInRange, isRegistration, additionalInRange}
 use Rattle.words.proofs.BitField.{join}
 use Rattle.words.proofs.Tests.{by-test, same-test, same, same-where, allBelow, all-below}
 use Rattle.words.proofs.Ranges.{RegistrationBounds, registration-bounds}
@@ -23,6 +23,8 @@ pub record RegistrationPacked (r : Registration) (w : ℕ) : Type 0 where
   pub additional : additionalOf w ≡ r .additional
   pub category : categoryOf w ≡ r .category
   pub llf : llfOf w ≡ r .llf
+  pub network : networkOf w ≡ r .network
+  pub tariff : tariffOf w ≡ r .tariff
 
 module _ (r : Registration) (ok : registrationInRange r ≡ true) where
   pub registration-packed : RegistrationPacked r (registrationWord r)
@@ -42,20 +44,22 @@ module _ (r : Registration) (ok : registrationInRange r ≡ true) where
         additional = registration-packed .additional i;
         category = registration-packed .category i;
         llf = registration-packed .llf i;
+        network = registration-packed .network i;
+        tariff = registration-packed .tariff i;
       }
 
-  pub registration-word-lt : registrationWord r < 2 ^ 33
+  pub registration-word-lt : registrationWord r < 2 ^ 49
   unfolding registrationWord
   registration-word-lt = omega (arith, registration-bounds r ok)
 
   pub registration-word-well-formed : isRegistration (registrationWord r) ≡ true
   unfolding isRegistration
   registration-word-well-formed =
-      let top : registrationWord r / 2 ^ 33 ≡ 0 = omega (arith, registration-word-lt) in
+      let top : registrationWord r / 2 ^ 49 ≡ 0 = omega (arith, registration-word-lt) in
       rw (top, registration-round-trip, ok)
 
 module _ (w : ℕ) (ok : isRegistration w ≡ true) where
-  pub well-formed-lt : w < 2 ^ 33
+  pub well-formed-lt : w < 2 ^ 49
   unfolding isRegistration
   well-formed-lt = let k = simp and-eq-true-iff at ok in omega (arith, eqb-true)
 
@@ -63,18 +67,18 @@ module _ (w : ℕ) (ok : isRegistration w ≡ true) where
   unfolding isRegistration
   well-formed-in-range = let k = simp and-eq-true-iff at ok in k .1
 
-  pub well-formed-bounds : RegistrationBounds (segmentOf w) (directionOf w) (statusOf w) (baseOf w) (flagOf w) (additionalOf w) (categoryOf w) (llfOf w)
+  pub well-formed-bounds : RegistrationBounds (segmentOf w) (directionOf w) (statusOf w) (baseOf w) (flagOf w) (additionalOf w) (categoryOf w) (llfOf w) (networkOf w) (tariffOf w)
   unfolding registrationOf
   well-formed-bounds = registration-bounds (registrationOf w) well-formed-in-range
 
   well-formed-additional : additionalInRange (flagOf w) (additionalOf w) ≡ true
   unfolding registrationInRange registrationOf
-  well-formed-additional = let k = simp and-eq-true-iff at well-formed-in-range in k .0 .0 .0 .1
+  well-formed-additional = let k = simp and-eq-true-iff at well-formed-in-range in k .0 .0 .0 .0 .0 .1
 
   pub well-formed-word : registrationWord (registrationOf w) ≡ w
   unfolding registrationWord registrationOf
   well-formed-word =
-      rw (div-one w, join w 2 1, join w 3 2, join w 5 5, join w 10 1, join w 11 5, join w 16 6, join w 22 11)
+      rw (div-one w, join w 2 1, join w 3 2, join w 5 5, join w 10 1, join w 11 5, join w 16 6, join w 22 11, join w 33 6, join w 39 10)
       (mod-eq-of-lt well-formed-lt)
 
 -- a unit's number has five bits in every word
@@ -119,32 +123,32 @@ module _ (w : ℕ) where
       let status : bitField w 0 5 / 8 ≡ statusOf w = rw (div-one w) (above-part (w % 8) (bitField w 3 2) (w % 32) (omega arith) (join w 3 2)) in
       low-fields (bitField w 0 5) short ∙ rw (segment, status)
 
-  -- the tests of a word that can fail: the units and the category fill their bits, and a loss factor in range that is read with all higher bits says that these are 0
+  -- the tests of a word that can fail: the units, the category, the network and the tariff fill their bits
   abbrev pub tests : Bool
   tests =
       eqb (7829367 / 2 ^ bitField w 0 5 % 2) 1
       && (eqb (flagOf w) 1 || eqb (additionalOf w) 0)
-      && (leb llfLeast (w / 2 ^ 22) && leb (w / 2 ^ 22) llfMost)
+      && (leb llfLeast (llfOf w) && leb (llfOf w) llfMost)
+      && eqb (w / 2 ^ 49) 0
 
   tests-enough : tests ≡ true → isRegistration w ≡ true
   unfolding isRegistration registrationInRange registrationOf
   tests-enough h =
       let k = simp and-eq-true-iff at h in
-      let low = simp and-eq-true-iff at (sym low-test ∙ k .0 .0) in
-      let most : w / 2 ^ 22 ≤ llfMost = leb-true (w / 2 ^ 22) llfMost (k .1 .1) in
-      let least : llfLeast ≤ w / 2 ^ 22 = leb-true llfLeast (w / 2 ^ 22) (k .1 .0) in
-      let top : w / 2 ^ 33 ≡ 0 = omega arith in
+      let low = simp and-eq-true-iff at (sym low-test ∙ k .0 .0 .0) in
       rw (
-        eq-eqb (w / 2 ^ 33) 0 top,
+        k .1,
         low .0,
         low .1,
         le-leb (directionOf w) directionMost (omega arith),
         le-leb (baseOf w) unitMost (omega arith),
         ← additional-test (flagOf w) (additionalOf w) (omega arith) (omega arith),
-        k .0 .1,
+        k .0 .0 .1,
         le-leb (categoryOf w) categoryMost (omega arith),
-        le-leb llfLeast (llfOf w) (omega arith),
-        le-leb (llfOf w) llfMost (omega arith),
+        k .0 .1 .0,
+        k .0 .1 .1,
+        le-leb (networkOf w) networkMost (omega arith),
+        le-leb (tariffOf w) tariffMost (omega arith),
       )
 
   pub registration-tests : tests ≡ isRegistration w
@@ -153,14 +157,14 @@ module _ (w : ℕ) where
       needed : isRegistration w ≡ true → tests ≡ true
       needed ok =
           let b = well-formed-bounds w ok in
-          let short : w / 2 ^ 22 < 2 ^ 11 = omega (arith, well-formed-lt w ok) in
-          let whole : llfOf w ≡ w / 2 ^ 22 = mod-eq-of-lt short in
+          let top : w / 2 ^ 49 ≡ 0 = omega (arith, well-formed-lt w ok) in
           rw (
             low-test,
             le-leb (segmentOf w) segmentMost (b .segment),
             le-leb (statusOf w) statusMost (b .status),
             additional-test (flagOf w) (additionalOf w) (omega arith) (omega arith),
             well-formed-additional w ok,
-            le-leb llfLeast (w / 2 ^ 22) (rw whole at (b .llf-least)),
-            le-leb (w / 2 ^ 22) llfMost (rw whole at (b .llf-most)),
+            le-leb llfLeast (llfOf w) (b .llf-least),
+            le-leb (llfOf w) llfMost (b .llf-most),
+            eq-eqb (w / 2 ^ 49) 0 top,
           )

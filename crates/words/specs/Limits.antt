@@ -35,6 +35,13 @@ llfLeast = 500
 abbrev pub llfMost : ℕ
 llfMost = 2000
 
+-- document 02, request 1: "an embedded network (0 to 63, 0 for none) and a tariff (0 to 1,023)"
+abbrev pub networkMost : ℕ
+networkMost = 63
+
+abbrev pub tariffMost : ℕ
+tariffMost = 1023
+
 -- "consumption in bits 0–23 (0 to 10,000,000 Wh)"
 abbrev pub consumptionMost : ℕ
 consumptionMost = 10000000

@@ -3,7 +3,7 @@ use Prim.Native.Nat.{ℕ, _+_, _*_, _/_, _%_, _^_}
 use mathlib.Core.Bool.{Bool, _&&_, _||_, cond}
 use lib.Dec.{leb, eqb}
 use Rattle.words.specs.declared.Registration.{Registration}
-use Rattle.words.specs.Limits.{segmentMost, directionMost, statusMost, unitMost, categoryMost, llfLeast, llfMost}
+use Rattle.words.specs.Limits.{segmentMost, directionMost, statusMost, unitMost, categoryMost, llfLeast, llfMost, networkMost, tariffMost}
 
 -- the number in `width` bits of the word w, from bit `at`
 abbrev pub bitField : ℕ → ℕ → ℕ → ℕ
@@ -41,6 +41,17 @@ categoryOf w = bitField w 16 6
 abbrev pub llfOf : ℕ → ℕ
 llfOf w = bitField w 22 11
 
+-- document 02, request 1: "in word 1 bits 33–38 and 39–48", the embedded network and the tariff
+abbrev pub networkOf : ℕ → ℕ
+networkOf w = bitField w 33 6
+
+abbrev pub tariffOf : ℕ → ℕ
+tariffOf w = bitField w 39 10
+
+-- request 1: "the new fields", the network and the tariff, left out of a word
+unfoldable pub withoutCharges : ℕ → ℕ
+withoutCharges w = w % 2 ^ 33
+
 -- "Word 1, from bit 0": the fields of a word, together
 unfoldable pub registrationOf : ℕ → Registration
 registrationOf w =
@@ -53,6 +64,8 @@ registrationOf w =
       additional = additionalOf w;
       category = categoryOf w;
       llf = llfOf w;
+      network = networkOf w;
+      tariff = tariffOf w;
     }
 
 -- the word that has these fields, and 0 in all higher bits
@@ -66,12 +79,14 @@ registrationWord r =
     + r .additional * 2 ^ 11
     + r .category * 2 ^ 16
     + r .llf * 2 ^ 22
+    + r .network * 2 ^ 33
+    + r .tariff * 2 ^ 39
 
 -- "additional unit in 5 (0 if there is none, any other value then being out of range)"
 abbrev pub additionalInRange : ℕ → ℕ → Bool
 additionalInRange flag additional = (eqb flag 0 && eqb additional 0) || (eqb flag 1 && leb additional unitMost)
 
--- each field in its range, as "Word 1" lists them
+-- each field in its range, as "Word 1" and request 1 list them
 unfoldable pub registrationInRange : Registration → Bool
 registrationInRange r =
     leb (r .segment) segmentMost
@@ -82,10 +97,12 @@ registrationInRange r =
     && leb (r .category) categoryMost
     && leb llfLeast (r .llf)
     && leb (r .llf) llfMost
+    && leb (r .network) networkMost
+    && leb (r .tariff) tariffMost
 
--- "All higher bits are 0"; "each used word [..] is one that accepted calls could have written": the well-formed word 1
+-- "All higher bits are 0", now those above the tariff ("well-formed books may now use those bits"); "each used word [..] is one that accepted calls could have written": the well-formed word 1
 unfoldable pub isRegistration : ℕ → Bool
-isRegistration w = eqb (w / 2 ^ 33) 0 && registrationInRange (registrationOf w)
+isRegistration w = eqb (w / 2 ^ 49) 0 && registrationInRange (registrationOf w)
 
 -- "The unit is the additional one if present, else the base one"
 unfoldable pub unitOf : ℕ → ℕ

@@ -1,9 +1,11 @@
 // The words of a row. A registration and a reading are packed into a word, and taken out of it, by shifts and masks.
 ghost use mathlib.Core.Path.{_≡_};
 ghost use mathlib.Core.Bool.{true};
-ghost use Prim.Native.Nat.{_+_, _*_, _^_, _<_};
+ghost use mathlib.Core.List.{_++_};
+ghost use Prim.Native.Nat.{_+_, _*_, _^_, _≤_, _<_};
+ghost use lib.ListN.{length, drop, replicate};
 ghost use Rattle.words.specs.Mpan.{isMpan};
-ghost use Rattle.words.specs.Registration.{bitField, segmentOf, directionOf, statusOf, categoryOf, llfOf, unitOf, registrationOf, registrationWord, registrationInRange, isRegistration};
+ghost use Rattle.words.specs.Registration.{bitField, segmentOf, directionOf, statusOf, categoryOf, llfOf, networkOf, tariffOf, unitOf, registrationOf, registrationWord, registrationInRange, isRegistration};
 ghost use Rattle.words.specs.Reading.{consumptionOf, qualityOf, issueOf, readingOf, readingWord, readingInRange, qualityAllowed, isActual, isE2orE6, isReading};
 
 pub const MPAN_MIN: u64 = 1_000_000_000_000;
@@ -24,6 +26,8 @@ pub struct Registration {
     pub additional: u64,
     pub category: u64,
     pub llf: u64,
+    pub network: u64,
+    pub tariff: u64,
 }
 
 // A reading: its issue number, its quality code and the consumption in Wh.
@@ -55,6 +59,18 @@ fn put(w: u64, x: u64, at: u64) -> u64
     ensures { λ r. ⌜ r ≡ w + x * 2 ^ at ⌝ }
 {
     w | (x << at)
+}
+
+// The first `count` numbers of a slice replaced by one number.
+pub fn fill(numbers: &mut [u64], count: usize, number: u64)
+    requires { ⌜ count ≤ length (now numbers) ⌝ }
+    ensures { λ r. ⌜ now (numbers .exit) ≡ replicate count number ++ drop count (now (numbers .entry)) ⌝ }
+{
+    let mut i = 0;
+    while i < count {
+        numbers[i] = number;
+        i += 1;
+    }
 }
 
 pub fn segment(w: u64) -> u64
@@ -98,6 +114,19 @@ pub fn llf(w: u64) -> u64
     bits(w, 22, 11)
 }
 
+// The embedded network of a meter, 0 if it is on none.
+pub fn network(w: u64) -> u64
+    ensures { λ r. ⌜ r ≡ networkOf w ⌝ }
+{
+    bits(w, 33, 6)
+}
+
+pub fn tariff(w: u64) -> u64
+    ensures { λ r. ⌜ r ≡ tariffOf w ⌝ }
+{
+    bits(w, 39, 10)
+}
+
 impl Registration {
     pub const SEGMENT_MAX: u64 = 2;
 
@@ -113,6 +142,10 @@ impl Registration {
 
     pub const LLF_MAX: u64 = 2_000;
 
+    pub const NETWORK_MAX: u64 = 63;
+
+    pub const TARIFF_MAX: u64 = 1_023;
+
     // Whether each field is in its range.
     pub fn in_range(self) -> bool
         ensures { λ r. ⌜ r ≡ registrationInRange self ⌝ }
@@ -126,6 +159,8 @@ impl Registration {
             & (self.category <= Self::CATEGORY_MAX)
             & (Self::LLF_MIN <= self.llf)
             & (self.llf <= Self::LLF_MAX)
+            & (self.network <= Self::NETWORK_MAX)
+            & (self.tariff <= Self::TARIFF_MAX)
     }
 
     // The word of these fields.
@@ -140,7 +175,9 @@ impl Registration {
         let to_flag = put(to_base, self.flag, 10);
         let to_additional = put(to_flag, self.additional, 11);
         let to_category = put(to_additional, self.category, 16);
-        put(to_category, self.llf, 22)
+        let to_llf = put(to_category, self.llf, 22);
+        let to_network = put(to_llf, self.network, 33);
+        put(to_network, self.tariff, 39)
     }
 
     // The fields of a word.
@@ -156,6 +193,8 @@ impl Registration {
             additional: bits(w, 11, 5),
             category: category(w),
             llf: llf(w),
+            network: network(w),
+            tariff: tariff(w),
         }
     }
 }
@@ -163,15 +202,16 @@ impl Registration {
 // The numbers that the lowest five bits of word 1 may be: bit x is set if a segment, a direction and a status in range are x.
 const LOW_FIELDS: u64 = 7_829_367;
 
-// Whether w is a well-formed word 1. Every number that fits in the bits of a unit or of the category is in range, and a loss factor
-// in range that is read with all higher bits says that these are 0.
+// Whether w is a well-formed word 1. Every number that fits in the bits of a unit, of the category, of the network or of the tariff
+// is in range.
 pub fn is_registration(w: u64) -> bool
     ensures { λ r. ⌜ r ≡ isRegistration w ⌝ }
 {
-    let llf = w >> 22;
+    let llf = bits(w, 22, 11);
     ((LOW_FIELDS >> bits(w, 0, 5)) % 2 == 1)
         & ((bits(w, 10, 1) == 1) | (bits(w, 11, 5) == 0))
         & ((Registration::LLF_MIN <= llf) & (llf <= Registration::LLF_MAX))
+        & (w >> 49 == 0)
 }
 
 // The consumption in a reading's word, in Wh.

@@ -26,10 +26,16 @@ put-requires-6 c κs = omega (arith, registration-bounds (c .before .before .bef
 put-requires-7 : tie.Need-put-requires-7
 put-requires-7 c κs = omega (arith, registration-bounds (c .before .before .before .before .before .before .args .self) (c .before .before .before .before .before .before .pre))
 
+put-requires-8 : tie.Need-put-requires-8
+put-requires-8 c κs = omega (arith, registration-bounds (c .before .before .before .before .before .before .before .args .self) (c .before .before .before .before .before .before .before .pre))
+
+put-requires-9 : tie.Need-put-requires-9
+put-requires-9 c κs = omega (arith, registration-bounds (c .before .before .before .before .before .before .before .before .args .self) (c .before .before .before .before .before .before .before .before .pre))
+
 returns : tie.Need-returns
 unfolding registrationWord
 returns c =
-    rw (c .put7 .ensures, c .before .put6 .ensures, c .before .before .put5 .ensures, c .before .before .before .put4 .ensures, c .before .before .before .before .put3 .ensures, c .before .before .before .before .before .put2 .ensures, c .before .before .before .before .before .before .put .ensures)
+    rw (c .put9 .ensures, c .before .put8 .ensures, c .before .before .put7 .ensures, c .before .before .before .put6 .ensures, c .before .before .before .before .put5 .ensures, c .before .before .before .before .before .put4 .ensures, c .before .before .before .before .before .before .put3 .ensures, c .before .before .before .before .before .before .before .put2 .ensures, c .before .before .before .before .before .before .before .before .put .ensures)
 
 pub pack-spec : {M : Type 1} → statement M
 pack-spec =
@@ -42,4 +48,6 @@ pack-spec =
     put-requires-5
     put-requires-6
     put-requires-7
+    put-requires-8
+    put-requires-9
     returns)

@@ -28,19 +28,27 @@ category-requires c κs = search needs
 llf-requires : tie.Need-llf-requires
 llf-requires c κs = search needs
 
+network-requires : tie.Need-network-requires
+network-requires c κs = search needs
+
+tariff-requires : tie.Need-tariff-requires
+tariff-requires c κs = search needs
+
 returns : tie.Need-returns
 unfolding registrationOf
 returns c =
     λ i.
     record {
-      segment = c .before .before .before .before .before .before .before .segment .ensures i;
-      direction = c .before .before .before .before .before .before .direction .ensures i;
-      status = c .before .before .before .before .before .status .ensures i;
-      base = c .before .before .before .before .bits .ensures i;
-      flag = c .before .before .before .bits2 .ensures i;
-      additional = c .before .before .bits3 .ensures i;
-      category = c .before .category .ensures i;
-      llf = c .llf .ensures i;
+      segment = c .before .before .before .before .before .before .before .before .before .segment .ensures i;
+      direction = c .before .before .before .before .before .before .before .before .direction .ensures i;
+      status = c .before .before .before .before .before .before .before .status .ensures i;
+      base = c .before .before .before .before .before .before .bits .ensures i;
+      flag = c .before .before .before .before .before .bits2 .ensures i;
+      additional = c .before .before .before .before .bits3 .ensures i;
+      category = c .before .before .before .category .ensures i;
+      llf = c .before .before .llf .ensures i;
+      network = c .before .network .ensures i;
+      tariff = c .tariff .ensures i;
     }
 
 pub unpack-spec : {M : Type 1} → statement M
@@ -55,4 +63,6 @@ unpack-spec =
     bits-requires-3
     category-requires
     llf-requires
+    network-requires
+    tariff-requires
     returns)

@@ -1,12 +1,12 @@
--- `fill` writes one number over the first `count`: those before `i` are done, and the others as they were. Assumes nothing.
+-- `words::fill` writes one number over the first `count`: those before `i` are done, and the others as they were. Assumes nothing.
 use Prim.Native.Nat.{ℕ, _-_, _≤_}
 use mathlib.Core.Path.{_≡_, _∙_, ap}
 use mathlib.Core.List.{List, _++_}
 use native.Mathlib.Omega.{arith}
 use borrow.Author.Fill.{fill-none, fill-more}
 use lib.ListN.{length, drop, replicate, set, length-set}
-use Rattle.listing.proofs.list.fill.Statement.{statement}
-use Rattle.listing.proofs.list.fill.Tie as tie
+use Rattle.words.proofs.fill.Statement.{statement}
+use Rattle.words.proofs.fill.Tie as tie
 
 abbrev Inv-loop : tie.InvT-loop
 Inv-loop numbers₀ count number i₀ numbers i =

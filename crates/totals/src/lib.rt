@@ -1,0 +1,2 @@
+// The totals call: network charges by tariff.
+pub mod totals;
