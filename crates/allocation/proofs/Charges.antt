@@ -1,6 +1,6 @@
 -- Two well-formed books with the same settings, and with rows that differ only in their networks and tariffs, are allocated alike.
 use Prim.Native.Nat.{ℕ, zero, suc}
-use mathlib.Core.Path.{_≡_, refl, ap, _∙_}
+use mathlib.Core.Path.{_≡_, refl, ap}
 use mathlib.Core.Bool.{true}
 use mathlib.Core.List.{List}
 use lib.IntN.{ℤ}
@@ -16,18 +16,19 @@ use Rattle.allocation.specs.Allocate.{allocationCause, allocationOutcome
 use Rattle.allocation.proofs.Alike.{MetersAlike, sums-alike, cause-alike, figures-alike}
 use Rattle.allocation.proofs.Outcome.{sumsOf}
 
-charges-aside : (shapes : List ℕ) (meters others : List Row) → RowsAlike meters others → MetersAlike shapes meters others
-charges-aside shapes meters others alike =
+-- rows that differ only so have the same cells, counts and missing shapes
+alike-meters : (shapes : List ℕ) (meters others : List Row) → RowsAlike meters others → MetersAlike shapes meters others
+alike-meters shapes meters others alike =
     record {
-      same-cells = λ unit. same-where-alike (λ (rows : List Row). cellsOf shapes rows unit) (λ rows. cells-without-charges shapes rows unit) meters others alike;
-      same-counts = same-where-alike countsOf counts-without-charges meters others alike;
-      same-lacks = same-where-alike (anyLacksShape shapes) (lacks-without-charges shapes) meters others alike;
+      same-cells = λ unit. same-where-alike meters others alike (λ (rows : List Row). cellsOf shapes rows unit) (λ rows. cells-without-charges shapes rows unit);
+      same-counts = same-where-alike meters others alike countsOf counts-without-charges;
+      same-lacks = same-where-alike meters others alike (anyLacksShape shapes) (lacks-without-charges shapes);
     }
 
 module _ (b other : Book) (formed : wellFormed b ≡ true) (other-formed : wellFormed other ≡ true) (settings : b .settings ≡ other .settings)
     (rows : RowsAlike (usedRows b) (usedRows other)) (slice : List ℤ) where
   meters-alike : MetersAlike (b .settings .shapes) (usedRows b) (usedRows other)
-  meters-alike = charges-aside (b .settings .shapes) (usedRows b) (usedRows other) rows
+  meters-alike = alike-meters (b .settings .shapes) (usedRows b) (usedRows other) rows
 
   same-cause : allocationCause b slice ≡ allocationCause other slice
   unfolding allocationCause

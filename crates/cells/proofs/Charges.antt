@@ -1,7 +1,7 @@
 -- Energies, cells, counts and missing shapes are the same without the networks and the tariffs.
 use Prim.Native.Nat.{ℕ, _-_}
 use mathlib.Core.Path.{_≡_, refl, ap, ap₂, fun-ext}
-use mathlib.Core.Bool.{Bool, cond, _||_}
+use mathlib.Core.Bool.{cond, _||_}
 use mathlib.Core.List.{List, [], _∷_, map}
 use lib.IntN.{ℤ, _+ℤ_}
 use Rattle.integers.specs.Sum.{sum}
@@ -15,7 +15,7 @@ use Rattle.cells.specs.Cells.{consumptionClass, inCell, energyIn, lossTh
 
 -- what one meter gives, of its two words
 module _ (w reading : ℕ) where
-  pub source-kept : sourceOf (withoutCharges w) reading ≡ sourceOf w reading
+  source-kept : sourceOf (withoutCharges w) reading ≡ sourceOf w reading
   unfolding sourceOf
   source-kept = rw (status-kept w)
 
@@ -56,7 +56,7 @@ module _ (w reading : ℕ) where
     loss-in-kept unit class = rw (llf-kept w, energy-kept) (in-cell-kept unit class (lossThousandths shapes w reading))
 
 -- what the meters give together
-pub sum-without-charges : (f : ℕ → ℕ → ℤ) → ((w reading : ℕ) → f (withoutCharges w) reading ≡ f w reading)
+sum-without-charges : (f : ℕ → ℕ → ℤ) → ((w reading : ℕ) → f (withoutCharges w) reading ≡ f w reading)
     → (meters : List Row) → sumOver f (map rowWithoutCharges meters) ≡ sumOver f meters
 unfolding sumOver sum
 sum-without-charges f kept [] = refl
