@@ -1,15 +1,17 @@
 -- The ways of a totals call, one for each cause and one for acceptance, and what its steps need.
 use Prim.Native.Nat.{ℕ, suc, _*_, _≤_, _<_}
 use mathlib.Core.Path.{_≡_, refl, _∙_, ap}
-use mathlib.Core.Bool.{true, false, _&&_}
+use mathlib.Core.Bool.{true, false, not, _&&_}
 use mathlib.Core.List.{List, _++_}
 use native.Mathlib.Omega.{arith}
-use borrow.Author.Tests.{lt-ltb, le-ltb}
+use borrow.Author.Tests.{lt-ltb, le-ltb, leb-true, leb-false, not-false}
 use lib.Dec.{leb}
 use lib.ListN.{length, getD, drop, replicate, length-append, length-replicate, getD-replicate, List·getD-append}
 use lib.Seq.{drop-at}
-use Rattle.refusals.specs.Causes.{bookIllFormed, argumentOutOfRange, totalsShort, shapeOfDefaultMissing, accepted}
+use Rattle.refusals.specs.Causes.{refuse, bookIllFormed, argumentOutOfRange, totalsShort, shapeOfDefaultMissing, accepted}
+use Rattle.refusals.proofs.Passed.{passed}
 use Rattle.words.specs.Limits.{directionMost, networkMost}
+use Rattle.words.proofs.Tests.{by-test}
 use Rattle.book.specs.declared.Settings.{Settings}
 use Rattle.book.specs.Limits.{categories}
 use Rattle.book.specs.Rows.{Row, capacity, rowsOf}
@@ -17,7 +19,7 @@ use Rattle.book.specs.Book.{usedRows, wellFormed, lent}
 use Rattle.book.proofs.WellFormed.{room, formed-book, formed-settings}
 use Rattle.cells.specs.Energy.{anyLacksShape}
 use Rattle.totals.specs.Totals.{totalsWords, totalsOf, totalsCause, totalsOutcome, totalsCall, TotalsGives}
-use Rattle.totals.specs.Helpers.{AddRowsArguments}
+use Rattle.totals.specs.Helpers.{argumentsCause, AddRowsArguments}
 
 -- the meters of a book
 abbrev pub metersIn : Settings → List ℕ → List Row
@@ -53,6 +55,14 @@ module _ (s : Settings) (words : List ℕ) (wf : wellFormed (lent s words) ≡ t
         totals-empty = filled-zero totalsWords (drop totalsWords slice) e;
       }
 
+-- where neither cause 2 nor cause 12 is given
+pub arguments-passed : (direction network : ℕ) (slice : List ℕ) → argumentsCause direction network (length slice) ≡ accepted
+    → ((leb direction directionMost && leb network networkMost) ≡ true) × (totalsWords ≤ length slice)
+arguments-passed direction network slice e =
+    let first = passed (not (leb direction directionMost && leb network networkMost)) 1 (refuse (not (leb totalsWords (length slice))) totalsShort accepted) e in
+    let second = passed (not (leb totalsWords (length slice))) 11 accepted (first .1) in
+    (not-false _ (first .0), leb-true totalsWords (length slice) (not-false _ (second .0)))
+
 -- the ways
 module _ (s : Settings) (words : List ℕ) (direction network : ℕ) (slice : List ℕ) where
   -- a refusal leaves all as it was
@@ -66,16 +76,28 @@ module _ (s : Settings) (words : List ℕ) (direction network : ℕ) (slice : Li
   way-ill-formed h = refusal 0 (rw h)
 
   module _ (wf : wellFormed (lent s words) ≡ true) where
-    pub way-out-of-range : (leb direction directionMost && leb network networkMost) ≡ false
+    -- causes 2 and 12
+    way-out-of-range : (leb direction directionMost && leb network networkMost) ≡ false
         → TotalsGives (totalsCall (lent s words) direction network slice) (record { number = argumentOutOfRange; settings = s }) words slice
     unfolding totalsCause
     way-out-of-range h = refusal 1 (rw (wf, h))
 
-    module _ (range : (leb direction directionMost && leb network networkMost) ≡ true) where
-      pub way-short : length slice < totalsWords → TotalsGives (totalsCall (lent s words) direction network slice) (record { number = totalsShort; settings = s }) words slice
-      unfolding totalsCause
-      way-short h = refusal 11 (rw (wf, range, lt-ltb (length slice) totalsWords h))
+    way-short : (leb direction directionMost && leb network networkMost) ≡ true → leb totalsWords (length slice) ≡ false
+        → TotalsGives (totalsCall (lent s words) direction network slice) (record { number = totalsShort; settings = s }) words slice
+    unfolding totalsCause
+    way-short range h = refusal 11 (rw (wf, range, lt-ltb (length slice) totalsWords (leb-false totalsWords (length slice) h)))
 
+    pub way-refused : (cause : ℕ) → cause ≡ argumentsCause direction network (length slice) → (cause ≡ accepted → ⊥)
+        → TotalsGives (totalsCall (lent s words) direction network slice) (record { number = cause; settings = s }) words slice
+    way-refused cause e some =
+        by-test (leb direction directionMost && leb network networkMost)
+        (λ range.
+        by-test (leb totalsWords (length slice))
+        (λ long. absurd (some (e ∙ rw (range, long))))
+        (λ short. rw (e, range, short) (way-short range short)))
+        (λ out. rw (e, out) (way-out-of-range out))
+
+    module _ (range : (leb direction directionMost && leb network networkMost) ≡ true) where
       module _ (long : totalsWords ≤ length slice) where
         pub way-lacks : anyLacksShape (s .shapes) (metersIn s words) ≡ true
             → TotalsGives (totalsCall (lent s words) direction network slice) (record { number = shapeOfDefaultMissing; settings = s }) words slice

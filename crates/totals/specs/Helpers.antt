@@ -1,10 +1,12 @@
 -- What the functions of the totals call are held to.
 use Prim.Native.Nat.{ℕ, _+_, _*_, _≤_, _<_}
 use mathlib.Core.Path.{_≡_}
-use mathlib.Core.Bool.{true, cond}
+use mathlib.Core.Bool.{true, not, _&&_, cond}
 use mathlib.Core.List.{List}
-use lib.Dec.{eqb}
+use lib.Dec.{leb, eqb}
 use lib.ListN.{length, getD, set}
+use Rattle.refusals.specs.Causes.{refuse, accepted, argumentOutOfRange, totalsShort}
+use Rattle.words.specs.Limits.{directionMost, networkMost}
 use Rattle.words.specs.Registration.{statusOf, tariffOf}
 use Rattle.book.specs.Limits.{metersMost, categories}
 use Rattle.book.specs.Settings.{isShape, allOf}
@@ -12,6 +14,12 @@ use Rattle.book.specs.Rows.{rowsOf, rowsFormed}
 use Rattle.cells.specs.declared.Use.{Use}
 use Rattle.cells.specs.Energy.{energised}
 use Rattle.totals.specs.Totals.{totalsWords}
+
+-- causes 2 and 12, of what is asked and of the length of the slice that is lent
+abbrev pub argumentsCause : ℕ → ℕ → ℕ → ℕ
+argumentsCause direction network words =
+    refuse (not (leb direction directionMost && leb network networkMost)) argumentOutOfRange
+    (refuse (not (leb totalsWords words)) totalsShort accepted)
 
 -- a list with an amount added to one number
 abbrev pub increased : List ℕ → ℕ → ℕ → List ℕ

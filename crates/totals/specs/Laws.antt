@@ -2,7 +2,7 @@
 use Prim.Native.Nat.{ℕ, _+_, _*_, _/_, _%_, _≤_}
 use mathlib.Core.Path.{_≡_}
 use mathlib.Core.Bool.{Bool, _&&_, cond}
-use mathlib.Core.List.{List, map}
+use mathlib.Core.List.{map}
 use lib.Dec.{eqb}
 use lib.IntN.{ℤ, pos}
 use lib.ListN.{getD}
@@ -11,7 +11,7 @@ use Rattle.words.specs.Limits.{directionMost}
 use Rattle.book.specs.Limits.{classes}
 use Rattle.book.specs.Book.{Book, usedRows}
 use Rattle.cells.specs.Energy.{countsOf}
-use Rattle.cells.specs.Cells.{units, countFrom, isLossClass, cell}
+use Rattle.cells.specs.Cells.{units, countFrom, cell}
 use Rattle.totals.specs.Totals.{tariffs, networks, bookTotals}
 
 -- the sum of f at each of the numbers 0, 1, .. below n

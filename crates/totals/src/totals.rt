@@ -18,16 +18,15 @@ ghost use mathlib.Core.Path.{_≡_};
 ghost use mathlib.Core.Bool.{_&&_};
 ghost use mathlib.Core.List.{_++_};
 ghost use Prim.Native.Nat.{_+_, _*_, _^_, _≤_, _<_};
-ghost use lib.Dec.{leb, eqb};
+ghost use lib.Dec.{eqb};
 ghost use lib.ListN.{length, drop, getD};
-ghost use Rattle.words.specs.Limits.{directionMost, networkMost};
 ghost use Rattle.words.specs.Registration.{directionOf, networkOf, tariffOf};
 ghost use Rattle.book.specs.Limits.{categories};
 ghost use Rattle.book.specs.Rows.{rowsOf};
 ghost use Rattle.book.specs.Book.{lent};
 ghost use Rattle.cells.specs.Energy.{anyLacksShape};
 ghost use Rattle.totals.specs.Totals.{totalsWords, totalsOf, totalsCall, TotalsGives};
-ghost use Rattle.totals.specs.Helpers.{increased, withMeter, AddArguments, AddRowsArguments};
+ghost use Rattle.totals.specs.Helpers.{argumentsCause, increased, withMeter, AddArguments, AddRowsArguments};
 
 pub const TARIFFS: usize = 1_024;
 
@@ -52,11 +51,21 @@ fn any_lacks(rows: &[u64], n: usize, shapes: &[u32; 64]) -> bool
     lacks
 }
 
-// Whether a call may ask for this direction and this network.
-fn in_range(direction: u64, network: u64) -> bool
-    ensures { λ r. ⌜ r ≡ (leb direction directionMost && leb network networkMost) ⌝ }
+// The number of the refusal for what is asked and lent, or 0: a direction or a network out of range comes before a slice that is
+// too short.
+fn arguments_cause(direction: u64, network: u64, words: usize) -> u64
+    ensures { λ r. ⌜ r ≡ argumentsCause direction network words ⌝ }
 {
-    (direction <= Registration::DIRECTION_MAX) & (network <= Registration::NETWORK_MAX)
+    let ranged = (direction <= Registration::DIRECTION_MAX)
+        & (network <= Registration::NETWORK_MAX);
+    let long = TOTALS_WORDS <= words;
+    if !ranged {
+        return ARGUMENT_OUT_OF_RANGE;
+    }
+    if !long {
+        return TOTALS_SHORT;
+    }
+    ACCEPTED
 }
 
 // Whether a meter is of the direction and the network that are asked for.
@@ -141,15 +150,10 @@ pub fn totals(
             settings,
         };
     }
-    if !in_range(direction, network) {
+    let cause = arguments_cause(direction, network, totals.len());
+    if cause != ACCEPTED {
         return Answer {
-            number: ARGUMENT_OUT_OF_RANGE,
-            settings,
-        };
-    }
-    if totals.len() < TOTALS_WORDS {
-        return Answer {
-            number: TOTALS_SHORT,
+            number: cause,
             settings,
         };
     }
