@@ -16,24 +16,24 @@ use cepnhoy::{Registration, ROW_WORDS};
 const NETWORKS: u64 = 64;
 
 /// The four words of all tariffs and networks of a direction, added up as the library gives them.
-fn added_up(lent: &mut Lent, direction: u64) -> Result<[u64; 4], Failure> {
+fn added_up(lent: &mut Lent, direction: u64) -> Result<[u128; 4], Failure> {
     let mut sums = [0; 4];
     // What one call leaves in the slice is there for the next one, which must write over it.
     let mut totals = vec![u64::MAX; WORDS];
     for network in 0..NETWORKS {
         same(&format!("number of the totals of network {network}"), lent.totals(direction, network, &mut totals), 0)?;
         for of_tariff in totals.chunks_exact(sums.len()) {
-            sums.iter_mut().zip(of_tariff).for_each(|(sum, word)| *sum += word);
+            sums.iter_mut().zip(of_tariff).for_each(|(sum, word)| *sum += u128::from(*word));
         }
     }
     Ok(sums)
 }
 
 /// The sum of a direction's consumption cells, in Wh: those of even classes.
-fn consumption_wh(cells: &Cells, direction: u64) -> i128 {
+fn consumption_wh(cells: &Cells, direction: u64) -> u128 {
     let is_wanted = |class: usize| class % 2 == 0 && class / 4 % 2 == direction as usize;
     let wanted = cells.iter().filter(|((_, class), _)| is_wanted(*class));
-    wanted.map(|(_, thousandths)| thousandths / 1_000).sum()
+    wanted.map(|(_, thousandths)| u128::try_from(thousandths / 1_000).expect("consumption is at least 0")).sum()
 }
 
 /// Actual and other Wh over all tariffs and networks are the sum of the direction's consumption cells; the meters counted are those
@@ -47,7 +47,7 @@ pub fn check_sums(lent: &mut Lent, book: &Book, reach: &mut Reach) -> Checked {
     for direction in 0..2 {
         let [actual, other, energised, de_energised] = added_up(lent, direction)?;
         let what = format!("actual and other Wh of direction {direction} over all totals, against its cells");
-        same(&what, i128::from(actual) + i128::from(other), consumption_wh(&sums.cells, direction))?;
+        same(&what, actual + other, consumption_wh(&sums.cells, direction))?;
         reach.note_if(Situation::TotalsSummed, actual > 0 && other > 0);
         meters += energised + de_energised;
     }
@@ -55,7 +55,7 @@ pub fn check_sums(lent: &mut Lent, book: &Book, reach: &mut Reach) -> Checked {
     let counted = answer.actual + answer.estimated + answer.defaulted;
     reach.note_if(Situation::TotalsCounted, answer.number == 0 && counted > 0);
     match answer.number {
-        0 => same("meters over all totals, against the counts of the allocation", meters, counted),
+        0 => same("meters over all totals, against the counts of the allocation", meters, counted.into()),
         _ => Ok(()),
     }
 }
