@@ -1,30 +1,23 @@
 -- What an allocation works out does not depend on the order of the meters.
 use Prim.Native.Nat.{ℕ}
-use mathlib.Core.Path.{_≡_, ap, fun-ext}
-use mathlib.Core.List.{List, map}
-use lib.IntN.{ℤ}
+use mathlib.Core.Path.{_≡_, refl}
+use mathlib.Core.List.{List}
 use Rattle.book.specs.declared.Settings.{Settings}
 use Rattle.book.specs.Rows.{Row}
-use Rattle.cells.specs.Cells.{countFrom, units}
 use Rattle.cells.proofs.Permuted.{Permuted}
 use Rattle.cells.proofs.AnyOrder.{cells-any-order, counts-any-order, lacks-any-order}
-use Rattle.correction.specs.declared.UnitSums.{UnitSums}
-use Rattle.correction.specs.Correction.{netOf, weightedOf}
-use Rattle.allocation.specs.Allocate.{unitSums, allUnitSums, metersCause, figuresOf}
-
-abbrev worked : List ℕ → List ℤ → UnitSums
-worked weights cells = record { net = netOf 0 cells; weighted = weightedOf cells weights }
+use Rattle.allocation.specs.Allocate.{allUnitSums, metersCause, figuresOf}
+use Rattle.allocation.proofs.Alike.{MetersAlike, sums-alike, cause-alike, figures-alike}
 
 module _ {meters others : List Row} (p : Permuted Row meters others) where
+  any-order : (shapes : List ℕ) → MetersAlike shapes meters others
+  any-order shapes = record { same-cells = cells-any-order p shapes; same-counts = counts-any-order p; same-lacks = lacks-any-order shapes p }
+
   pub sums-any-order : (s : Settings) → allUnitSums s meters ≡ allUnitSums s others
-  unfolding allUnitSums unitSums
-  sums-any-order s =
-      ap (λ (cells : ℕ → List ℤ). map (λ unit. worked (s .weights) (cells unit)) (countFrom 0 units)) (fun-ext (cells-any-order p (s .shapes)))
+  sums-any-order s = sums-alike refl (any-order (s .shapes))
 
   pub cause-any-order : (s : Settings) → metersCause s meters ≡ metersCause s others
-  unfolding metersCause
-  cause-any-order s = rw (lacks-any-order (s .shapes) p, sums-any-order s)
+  cause-any-order s = cause-alike refl (any-order (s .shapes))
 
   pub figures-any-order : (s : Settings) → figuresOf s meters ≡ figuresOf s others
-  unfolding figuresOf
-  figures-any-order s = rw (counts-any-order p, sums-any-order s)
+  figures-any-order s = figures-alike refl (any-order (s .shapes))

@@ -1,4 +1,5 @@
 -- Laws of the allocate call, for this crate's functions and for the crates above.
+pub mod Alike
 pub mod AnyOrder
 -- how large n, a, U and W can be
 pub mod SumBounds
@@ -7,3 +8,4 @@ pub mod Bounds
 pub mod Steps
 pub mod Ways
 pub mod Outcome
+pub mod Charges

@@ -15,3 +15,4 @@ pub mod Inserted
 pub mod Parts
 pub mod BookFormed
 pub mod StoredFormed
+pub mod Charges

@@ -5,7 +5,7 @@ use mathlib.Core.List.{List, [], _∷_, _++_}
 use lib.Dec.{ltb, eqb}
 use lib.ListN.{length, getD, drop}
 use Rattle.words.specs.Mpan.{isMpan}
-use Rattle.words.specs.Registration.{isRegistration}
+use Rattle.words.specs.Registration.{isRegistration, withoutCharges}
 use Rattle.words.specs.Reading.{isReading, noReading, issueOf}
 use Rattle.book.specs.Limits.{metersMost}
 
@@ -77,3 +77,7 @@ withReading m word (r ∷ rows) =
     cond (eqb (r .mpan) m)
     (record { mpan = m; registration = r .registration; reading = word } ∷ rows)
     (r ∷ withReading m word rows)
+
+-- document 02, request 1: "the new fields", the embedded network and the tariff, left out of a row
+abbrev pub rowWithoutCharges : Row → Row
+rowWithoutCharges r = record { mpan = r .mpan; registration = withoutCharges (r .registration); reading = r .reading }

@@ -11,6 +11,7 @@ pub mod Stored
 pub mod Counted
 pub mod OneMore
 pub mod AnyOrder
+pub mod Charges
 -- how large they can be
 pub mod RowBounds
 pub mod Totals

@@ -44,7 +44,7 @@ loss-most llf e h =
     let k : natAbs z ≤ 1000 = omega (linear, size z, one-side z, minus (pos llf) (pos 1000)) in
     rw (size-times z (pos e)) (mul-le-mul-right e k)
 
-estimate-most : (x : Source) → estimateBit x ≤ 1
+pub estimate-most : (x : Source) → estimateBit x ≤ 1
 unfolding estimateBit
 estimate-most actualReading = omega arith
 estimate-most estimatedReading = omega arith

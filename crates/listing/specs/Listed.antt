@@ -18,9 +18,9 @@ use Rattle.calls.specs.declared.Call.{Call}
 use Rattle.calls.specs.declared.Call.the-variants.{Register, Record, Set}
 use Rattle.calls.specs.Calls.{bookAfter, numbersGiven}
 
--- a call is ten words: its kind, then its arguments in the order of the call; words that a kind does not use mean nothing
+-- a call is twelve words: its kind, then its arguments in the order of the call; words that a kind does not use mean nothing
 abbrev pub callWords : ℕ
-callWords = 10
+callWords = 12
 
 abbrev pub registerKind : ℕ
 registerKind = 1
@@ -59,6 +59,8 @@ registrationIn ws =
       additional = getD ws 7 0;
       category = getD ws 8 0;
       llf = getD ws 9 0;
+      network = getD ws 10 0;
+      tariff = getD ws 11 0;
     }
 
 abbrev pub readingIn : List ℕ → Reading

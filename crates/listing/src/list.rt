@@ -1,4 +1,4 @@
-// A whole list of calls in one call. The calls stand in a slice, ten words a call: its kind, then its arguments.
+// A whole list of calls in one call. The calls stand in a slice, twelve words a call: its kind, then its arguments.
 use book::Answer;
 use book::Setting;
 use book::Settings;
@@ -26,7 +26,7 @@ ghost use Rattle.two_parts.specs.TwoParts.{PartsReady, StoresApart};
 ghost use Rattle.listing.specs.Listed.{callWords, signedOf, mpanIn, registrationIn, readingIn, settingIn, listOutcome, listCall, ListGives};
 ghost use Rattle.listing.specs.Helpers.{rowStoring};
 
-pub const CALL_WORDS: usize = 10;
+pub const CALL_WORDS: usize = 12;
 
 // The kinds of call.
 
@@ -73,6 +73,8 @@ fn registration_of(call: &[u64]) -> Registration
         additional: call[7],
         category: call[8],
         llf: call[9],
+        network: call[10],
+        tariff: call[11],
     }
 }
 

@@ -19,3 +19,5 @@ pub mod Meant
 pub mod Moved
 pub mod Moves
 pub mod Settles
+-- books and lists that differ only in networks and tariffs
+pub mod Charges

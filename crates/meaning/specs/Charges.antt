@@ -6,8 +6,8 @@ use mathlib.Core.List.{List, [], _∷_, map}
 use lib.IntN.{ℤ}
 use lib.ListN.{length}
 use Rattle.words.specs.declared.Registration.{Registration}
-use Rattle.words.specs.Registration.{withoutCharges, registrationInRange}
-use Rattle.book.specs.Rows.{Row}
+use Rattle.words.specs.Registration.{registrationInRange}
+use Rattle.book.specs.Rows.{rowWithoutCharges}
 use Rattle.book.specs.Book.{Book, freshBook, usedRows, wellFormed}
 use Rattle.calls.specs.declared.Call.{Call}
 use Rattle.calls.specs.declared.Call.the-variants.{Register}
@@ -15,10 +15,7 @@ use Rattle.calls.specs.Calls.{numbersGiven}
 use Rattle.allocation.specs.Allocate.{Allocation, allocateCall}
 use Rattle.meaning.specs.Demand.{allocationAfter}
 
--- "the new fields" left out of a row, and out of the argument of a register call
-abbrev pub rowWithoutCharges : Row → Row
-rowWithoutCharges r = record { mpan = r .mpan; registration = withoutCharges (r .registration); reading = r .reading }
-
+-- "the new fields" left out of the argument of a register call
 unfoldable pub registrationWithoutCharges : Registration → Registration
 registrationWithoutCharges r =
     record {

@@ -13,6 +13,7 @@ use Rattle.calls.specs.declared.Call.{Call}
 use Rattle.calls.specs.declared.Call.the-variants.{Register, Record, Set}
 use Rattle.calls.specs.Calls.{Outcome, callOutcome, Gives}
 use Rattle.period_file.specs.declared.Taken.{Taken}
+use Rattle.period_file.specs.declared.Registered.{Registered}
 use Rattle.period_file.specs.declared.Line.{Line}
 use Rattle.period_file.specs.declared.Line.the-variants.{OutOfForm, Makes}
 use Rattle.period_file.specs.Numbers.{signedOf, numberOf}
@@ -41,30 +42,40 @@ shapeLine value =
     inForm (eqb (fieldCount value) 2 && numberAt 0 value .ok && numberAt 1 value .ok)
     (Makes (Set (Shape (numberAt 0 value .value) (numberAt 1 value .value))))
 
--- "meter=MPAN,segment,direction,status,base,additional or -,category,LLF"
+-- "segment,direction,status,base,additional or -,category,LLF", and of document 02, request 1, "the meter line ends with these two numbers", the embedded network and the tariff: the fields after the MPAN
+unfoldable pub registrationAt : List ℕ → Registered
+registrationAt value =
+    record {
+      ok =
+          numberAt 1 value .ok
+          && numberAt 2 value .ok
+          && numberAt 3 value .ok
+          && numberAt 4 value .ok
+          && additionalAt 5 value .ok
+          && numberAt 6 value .ok
+          && numberAt 7 value .ok
+          && numberAt 8 value .ok
+          && numberAt 9 value .ok;
+      registration =
+          record {
+            segment = numberAt 1 value .value;
+            direction = numberAt 2 value .value;
+            status = numberAt 3 value .value;
+            base = numberAt 4 value .value;
+            flag = additionalAt 5 value .flag;
+            additional = additionalAt 5 value .unit;
+            category = numberAt 6 value .value;
+            llf = numberAt 7 value .value;
+            network = numberAt 8 value .value;
+            tariff = numberAt 9 value .value;
+          };
+    }
+
+-- "meter=MPAN,segment,direction,status,base,additional or -,category,LLF" with the two numbers of request 1: ten fields
 unfoldable pub meterLine : List ℕ → Line
 meterLine value =
-    inForm
-    (eqb (fieldCount value) 8
-    && numberAt 0 value .ok
-    && numberAt 1 value .ok
-    && numberAt 2 value .ok
-    && numberAt 3 value .ok
-    && numberAt 4 value .ok
-    && additionalAt 5 value .ok
-    && numberAt 6 value .ok
-    && numberAt 7 value .ok)
-    (Makes (Register (numberAt 0 value .value)
-    (record {
-      segment = numberAt 1 value .value;
-      direction = numberAt 2 value .value;
-      status = numberAt 3 value .value;
-      base = numberAt 4 value .value;
-      flag = additionalAt 5 value .flag;
-      additional = additionalAt 5 value .unit;
-      category = numberAt 6 value .value;
-      llf = numberAt 7 value .value;
-    })))
+    inForm (eqb (fieldCount value) 10 && numberAt 0 value .ok && registrationAt value .ok)
+    (Makes (Register (numberAt 0 value .value) (registrationAt value .registration)))
 
 -- "reading=MPAN,issue,quality,Wh"
 unfoldable pub readingLine : List ℕ → Line

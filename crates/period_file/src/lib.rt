@@ -1,6 +1,7 @@
 // The lines of a period file: whether a line is in form, which kind it is, and which call it makes.
 use book::Answer;
 use calls::Call;
+use words::Registration;
 
 pub mod answer;
 pub mod fields;
@@ -24,6 +25,12 @@ pub struct Additional {
     pub ok: bool,
     pub flag: u64,
     pub unit: u64,
+}
+
+// The registration in a meter line; not ok if a field of it is out of form.
+pub struct Registered {
+    pub ok: bool,
+    pub registration: Registration,
 }
 
 // The key of a line, by the number of its kind (0 for none), and where its value begins.

@@ -1,6 +1,7 @@
 // The six kinds of line, and the order in which they may stand.
 use crate::Found;
 use crate::Line;
+use crate::Registered;
 use crate::fields::additional_at;
 use crate::fields::field_count;
 use crate::fields::number_at;
@@ -13,7 +14,7 @@ use words::Reading;
 use words::Registration;
 ghost use mathlib.Core.Path.{_≡_};
 ghost use Rattle.period_file.specs.Helpers.{keyOr, Means};
-ghost use Rattle.period_file.specs.Lines.{inForm, takeLine, toleranceLine, weightLine, shapeLine, meterLine, readingLine, keyedLine, settingKind, callKind, kindOf, kindFollows, lineAfter};
+ghost use Rattle.period_file.specs.Lines.{inForm, takeLine, toleranceLine, weightLine, shapeLine, registrationAt, meterLine, readingLine, keyedLine, settingKind, callKind, kindOf, kindFollows, lineAfter};
 
 // The bytes of a line, at most, without its line feed.
 pub const LINE_MAX: usize = 80;
@@ -70,10 +71,10 @@ fn shape_line(value: &[u8]) -> Line
     )
 }
 
-fn meter_line(value: &[u8]) -> Line
-    ensures { λ r. ⌜ r ≡ meterLine (now (value .entry)) ⌝ }
+// The fields of a meter line after its MPAN.
+fn registration_at(value: &[u8]) -> Registered
+    ensures { λ r. ⌜ r ≡ registrationAt (now (value .entry)) ⌝ }
 {
-    let mpan = number_at(value, 0);
     let segment = number_at(value, 1);
     let direction = number_at(value, 2);
     let status = number_at(value, 3);
@@ -81,6 +82,8 @@ fn meter_line(value: &[u8]) -> Line
     let additional = additional_at(value, 5);
     let category = number_at(value, 6);
     let llf = number_at(value, 7);
+    let network = number_at(value, 8);
+    let tariff = number_at(value, 9);
     let registration = Registration {
         segment: segment.value,
         direction: direction.value,
@@ -90,18 +93,22 @@ fn meter_line(value: &[u8]) -> Line
         additional: additional.unit,
         category: category.value,
         llf: llf.value,
+        network: network.value,
+        tariff: tariff.value,
     };
-    let all = (field_count(value) == 8)
-        & mpan.ok
-        & segment.ok
-        & direction.ok
-        & status.ok
-        & base.ok
-        & additional.ok
-        & category.ok
-        & llf.ok;
+    let numbers = segment.ok & direction.ok & status.ok & base.ok;
+    let ok = numbers & additional.ok & category.ok & llf.ok & network.ok & tariff.ok;
+    Registered { ok, registration }
+}
+
+fn meter_line(value: &[u8]) -> Line
+    ensures { λ r. ⌜ r ≡ meterLine (now (value .entry)) ⌝ }
+{
+    let mpan = number_at(value, 0);
+    let registered = registration_at(value);
+    let registration = registered.registration;
     in_form(
-        all,
+        (field_count(value) == 10) & mpan.ok & registered.ok,
         Line::Makes(Call::Register {
             mpan: mpan.value,
             registration,

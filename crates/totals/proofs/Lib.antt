@@ -1,1 +1,3 @@
 -- Laws of the totals call.
+pub mod SumBelow
+pub mod AddUp

@@ -3,4 +3,5 @@ pub mod Tests
 pub mod BitField
 pub mod Ranges
 pub mod RegistrationWord
+pub mod Charges
 pub mod ReadingWord
