@@ -40,11 +40,11 @@ pub fn llf(word: u64) -> u64 {
 #[inline(always)]
 pub fn is_registration(word: u64) -> bool {
     let threes = word & (word >> 1) & 0b1001;
-    let above_tariff = word >> 49;
     let above_least = llf(word).wrapping_sub(LLF_LEAST);
-    (threes | above_tariff) == 0
+    threes == 0
         && ((word >> 10 & 1 == 1) | (word >> 11 & 31 == 0))
         && above_least <= LLF_MOST - LLF_LEAST
+        && word >> 49 == 0
 }
 
 #[inline(always)]
