@@ -8,13 +8,14 @@ use lib.ListN.{length, getD, set, take, drop}
 use Rattle.refusals.specs.Causes.{accepted, argumentOutOfRange, qualityRefused, meterUnknown, issueNotAbove, capacityReached}
 use Rattle.words.specs.declared.Registration.{Registration}
 use Rattle.words.specs.declared.Reading.{Reading}
-use Rattle.words.specs.Registration.{registrationWord}
 use Rattle.words.specs.Reading.{noReading, issueOf, qualityAllowed, readingWord}
+use Rattle.book.specs.declared.Asked.{Asked}
 use Rattle.book.specs.declared.Held.{Held}
 use Rattle.book.specs.declared.Stored.{Stored}
 use Rattle.book.specs.Rows.{Row, capacity, rowsOf, isKnown, issueHeld, newRow, withRegistration, withReading, written}
 use Rattle.book.specs.Store.{registerInRange, readingCallInRange, hasNoRoom, registrationCause, readingCause}
-use Rattle.book.specs.Helpers.{placeOf, nothingHeld, rowHeld, heldIn, Storing, storing, registrationStoring, readingStoring, notStored, storedBy, RowsReady, Stores}
+use Rattle.book.specs.Helpers.{placeOf, nothingHeld, rowHeld, heldIn, Storing, storing, askedOf, wordStoring, registrationStoring, readingStoring, notStored, storedBy, storedOf, RowsReady, Stores}
+use Rattle.words.proofs.Tests.{by-test}
 use Rattle.book.proofs.RowsOf.{length-rows}
 use Rattle.book.proofs.WellFormed.{room}
 use Rattle.book.proofs.Written.{written-same}
@@ -22,24 +23,38 @@ use Rattle.book.proofs.WithRegistration.{length-inserted, length-replac
 use Rattle.book.proofs.WithReading.{length-reading, reading-stores}
 use Rattle.book.proofs.HeldIn.{held-none, issue-held, held-in, held-read, held-registered, held-new}
 
--- a registration
-module _ (capacity m : ℕ) (r : Registration) (rows : List Row) where
-  pub registration-out-of-range : registerInRange m r ≡ false → registrationStoring capacity m r rows ≡ record { number = argumentOutOfRange; rows = rows }
-  unfolding registrationStoring registrationCause storing
+-- a registration, as it is asked for
+module _ (capacity m : ℕ) (asked : Asked) (rows : List Row) where
+  pub registration-out-of-range : asked .ok ≡ false → wordStoring capacity m asked rows ≡ record { number = argumentOutOfRange; rows = rows }
+  unfolding wordStoring storing
   registration-out-of-range h = rw h
 
-  module _ (range : registerInRange m r ≡ true) where
-    pub registration-no-room : isKnown m rows ≡ false → capacity ≤ length rows → registrationStoring capacity m r rows ≡ record { number = capacityReached; rows = rows }
-    unfolding registrationStoring registrationCause storing hasNoRoom
+  module _ (range : asked .ok ≡ true) where
+    pub registration-no-room : isKnown m rows ≡ false → capacity ≤ length rows → wordStoring capacity m asked rows ≡ record { number = capacityReached; rows = rows }
+    unfolding wordStoring storing hasNoRoom
     registration-no-room k full = rw (range, k, le-leb capacity (length rows) full)
 
-    pub registration-known : isKnown m rows ≡ true → registrationStoring capacity m r rows ≡ record { number = accepted; rows = withRegistration m (registrationWord r) rows }
-    unfolding registrationStoring registrationCause storing hasNoRoom
+    registration-known : isKnown m rows ≡ true → wordStoring capacity m asked rows ≡ record { number = accepted; rows = withRegistration m (asked .word) rows }
+    unfolding wordStoring storing hasNoRoom
     registration-known k = rw (range, k)
 
-    pub registration-new : isKnown m rows ≡ false → length rows < capacity → registrationStoring capacity m r rows ≡ record { number = accepted; rows = withRegistration m (registrationWord r) rows }
-    unfolding registrationStoring registrationCause storing hasNoRoom
+    registration-new : isKnown m rows ≡ false → length rows < capacity → wordStoring capacity m asked rows ≡ record { number = accepted; rows = withRegistration m (asked .word) rows }
+    unfolding wordStoring storing hasNoRoom
     registration-new k free = rw (range, k, lt-leb capacity (length rows) free)
+
+-- what a register call asks for is stored as the call's registration is: out of range, no word is
+asked-storing : (capacity m : ℕ) (r : Registration) (rows : List Row) → wordStoring capacity m (askedOf m r) rows ≡ registrationStoring capacity m r rows
+unfolding wordStoring registrationStoring registrationCause storing
+asked-storing capacity m r rows = by-test (registerInRange m r) (λ t. rw t) (λ t. rw t)
+
+pub asked-stores : (capacity m : ℕ) (r : Registration) {n : ℕ} {words : List ℕ} {asked : Asked} {stored : Stored} {wordsAfter : List ℕ} → asked ≡ askedOf m r
+    → Stores m (wordStoring capacity m asked) n words stored wordsAfter → Stores m (registrationStoring capacity m r) n words stored wordsAfter
+asked-stores capacity m r {n = n} {words = words} {asked = asked} e h =
+    let o : wordStoring capacity m asked (rowsOf n words) ≡ registrationStoring capacity m r (rowsOf n words) = rw e (asked-storing capacity m r (rowsOf n words)) in
+    record {
+      answer = h .answer ∙ ap (storedOf m (rowsOf n words)) o;
+      slice = h .slice ∙ ap (λ (x : Storing). written (x .rows) words) o;
+    }
 
 -- a reading
 module _ (m : ℕ) (r : Reading) (rows : List Row) where
@@ -90,32 +105,32 @@ module _ (m : ℕ) {n : ℕ} {words : List ℕ} (ready : RowsReady n words) {k :
   held-there : isKnown m (rowsOf n words) ≡ true → heldIn m (rowsOf n words) ≡ rowHeld (getD words (3 * k + 1) 0) (getD words (3 * k + 2) 0)
   held-there known = rw place (held-in words n m 0 (ready .formed) known)
 
-  module _ (r : Registration) {w : ℕ} (word : w ≡ registrationWord r) (range : registerInRange m r ≡ true) where
+  module _ (asked : Asked) (range : asked .ok ≡ true) where
     -- a known meter's word 1 is stored
     pub registration-stored : isKnown m (rowsOf n words) ≡ true
-        → Stores m (registrationStoring (capacity words) m r) n words
-        (record { number = accepted; meters = n; before = rowHeld (getD words (3 * k + 1) 0) (getD words (3 * k + 2) 0); after = rowHeld w (getD words (3 * k + 2) 0) })
-        (set words (3 * k + 1) w)
+        → Stores m (wordStoring (capacity words) m asked) n words
+        (record { number = accepted; meters = n; before = rowHeld (getD words (3 * k + 1) 0) (getD words (3 * k + 2) 0); after = rowHeld (asked .word) (getD words (3 * k + 2) 0) })
+        (set words (3 * k + 1) (asked .word))
     registration-stored known =
         let rows = rowsOf n words in
-        stores ready (registration-known (capacity words) m r rows range known)
-        (length-replaced 0 m (registrationWord r) rows (ready .formed) known ∙ length-rows n words)
+        stores ready (registration-known (capacity words) m asked rows range known)
+        (length-replaced 0 m (asked .word) rows (ready .formed) known ∙ length-rows n words)
         (held-there known)
-        (held-registered 0 m (registrationWord r) rows (ready .formed) known ∙ rw word (ap (λ (h : Held). rowHeld (registrationWord r) (h .reading)) (held-there known)))
-        (registration-stores words n m (registrationWord r) (room words n (ready .within-capacity)) 0 (ready .formed) known ∙ rw (place, word))
+        (held-registered 0 m (asked .word) rows (ready .formed) known ∙ ap (λ (h : Held). rowHeld (asked .word) (h .reading)) (held-there known))
+        (registration-stores words n m (asked .word) (room words n (ready .within-capacity)) 0 (ready .formed) known ∙ rw place)
 
     -- a new meter's row is inserted
     pub row-inserted : isKnown m (rowsOf n words) ≡ false → n < capacity words → {wordsAfter : List ℕ}
-        → wordsAfter ≡ take (3 * placeOf m (rowsOf n words)) words ++ written (newRow m (registrationWord r) ∷ rowsOf (n - placeOf m (rowsOf n words)) (drop (3 * placeOf m (rowsOf n words)) words)) (drop (3 * placeOf m (rowsOf n words)) words)
-        → Stores m (registrationStoring (capacity words) m r) n words
-        (record { number = accepted; meters = n + 1; before = nothingHeld; after = rowHeld w noReading }) wordsAfter
+        → wordsAfter ≡ take (3 * placeOf m (rowsOf n words)) words ++ written (newRow m (asked .word) ∷ rowsOf (n - placeOf m (rowsOf n words)) (drop (3 * placeOf m (rowsOf n words)) words)) (drop (3 * placeOf m (rowsOf n words)) words)
+        → Stores m (wordStoring (capacity words) m asked) n words
+        (record { number = accepted; meters = n + 1; before = nothingHeld; after = rowHeld (asked .word) noReading }) wordsAfter
     row-inserted unknown free e =
         let rows = rowsOf n words in
-        stores ready (registration-new (capacity words) m r rows range unknown (rw (length-rows n words) free))
-        (length-inserted m (registrationWord r) rows unknown ∙ ap (λ (l : ℕ). l + 1) (length-rows n words))
+        stores ready (registration-new (capacity words) m asked rows range unknown (rw (length-rows n words) free))
+        (length-inserted m (asked .word) rows unknown ∙ ap (λ (l : ℕ). l + 1) (length-rows n words))
         (held-none m rows unknown)
-        (held-new m (registrationWord r) rows unknown ∙ rw word)
-        (registration-inserts words n m (registrationWord r) (room words n (ready .within-capacity)) unknown ∙ sym e)
+        (held-new m (asked .word) rows unknown)
+        (registration-inserts words n m (asked .word) (room words n (ready .within-capacity)) unknown ∙ sym e)
 
   module _ (r : Reading) (range : readingCallInRange m r ≡ true) (allowed : qualityAllowed r ≡ true) (known : isKnown m (rowsOf n words) ≡ true) where
     issue-there : issueHeld m (rowsOf n words) ≡ issueOf (getD words (3 * k + 2) 0)

@@ -42,6 +42,12 @@ pub enum Setting {
     GroupTake(i64),
 }
 
+// What a register call asks for: whether its arguments are in range, and the word to store (0 if they are not).
+pub struct Asked {
+    pub ok: bool,
+    pub word: u64,
+}
+
 // What a meter holds: words 1 and 2 of its row, or nothing (both 0) where it has none.
 pub struct Held {
     pub known: bool,

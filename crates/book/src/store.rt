@@ -1,4 +1,5 @@
 // Registrations and readings stored in rows that were tested before.
+use crate::Asked;
 use crate::Held;
 use crate::Place;
 use crate::Stored;
@@ -17,7 +18,7 @@ use words::Registration;
 ghost use mathlib.Core.Path.{_≡_};
 ghost use mathlib.Core.Bool.{true};
 ghost use Rattle.book.specs.Rows.{capacity, rowsOf};
-ghost use Rattle.book.specs.Helpers.{placeIn, RowsReady, nothingHeld, registrationStoring, readingStoring, notStored, Stores};
+ghost use Rattle.book.specs.Helpers.{placeIn, RowsReady, nothingHeld, askedOf, wordStoring, readingStoring, notStored, Stores};
 
 // A meter that has no row.
 fn nothing_held() -> Held
@@ -42,22 +43,34 @@ fn not_stored(number: u64, meters: usize) -> Stored
     }
 }
 
-// Stores or replaces a meter's registration, where a search of the rows gave `place`. It packs in one place and does not search, which
-// keeps it short enough for the compiler to build it into its callers. What is told is then not written to memory where none reads it.
+// Tests the arguments of a register call and packs its word. Storing the word is a function of its own, which so stays short enough for
+// the compiler to build it into its callers.
+pub fn registration_asked(mpan: u64, registration: Registration) -> Asked
+    ensures { λ r. ⌜ r ≡ askedOf mpan registration ⌝ }
+{
+    if !register_in_range(mpan, registration) {
+        return Asked { ok: false, word: 0 };
+    }
+    let word = registration.pack();
+    Asked { ok: true, word }
+}
+
+// Stores or replaces a meter's registration word, where a search of the rows gave `place`. It neither packs nor searches, so that the
+// compiler builds it into its callers. What is told is then not written to memory where none reads it.
 pub fn store_registration(
     meters: usize,
     place: Place,
     rows: &mut [u64],
     mpan: u64,
-    registration: Registration,
+    asked: Asked,
 ) -> Stored
     requires { ⌜ RowsReady meters (now rows) ⌝ ∗ ⌜ place ≡ placeIn mpan (rowsOf meters (now rows)) ⌝ }
-    ensures { λ r. ⌜ Stores mpan (registrationStoring (capacity (now (rows .entry))) mpan registration) meters (now (rows .entry)) r (now (rows .exit)) ⌝ }
+    ensures { λ r. ⌜ Stores mpan (wordStoring (capacity (now (rows .entry))) mpan asked) meters (now (rows .entry)) r (now (rows .exit)) ⌝ }
 {
-    if !register_in_range(mpan, registration) {
+    if !asked.ok {
         return not_stored(ARGUMENT_OUT_OF_RANGE, meters);
     }
-    let word = registration.pack();
+    let word = asked.word;
     let index = place.index;
     let at = 3 * index;
     if place.known {
@@ -83,9 +96,10 @@ pub fn store_registration(
         return not_stored(CAPACITY_REACHED, meters);
     }
     insert_row(&mut rows[at..], meters - index, mpan, word);
+    let count = meters + 1;
     Stored {
         number: ACCEPTED,
-        meters: meters + 1,
+        meters: count,
         before: nothing_held(),
         after: Held {
             known: true,

@@ -7,6 +7,7 @@ use book::Stored;
 use book::formed::is_formed;
 use book::replace::replace;
 use book::rows::find;
+use book::store::registration_asked;
 use book::store::store_reading;
 use book::store::store_registration;
 use refusals::BOOK_ILL_FORMED;
@@ -43,7 +44,8 @@ pub fn make_call(settings: Settings, rows: &mut [u64], call: Call) -> Answer
     match call {
         Call::Register { mpan, registration } => {
             let place = find(rows, meters, mpan);
-            let stored = store_registration(meters, place, rows, mpan, registration);
+            let asked = registration_asked(mpan, registration);
+            let stored = store_registration(meters, place, rows, mpan, asked);
             counted(settings, stored)
         }
         Call::Record { mpan, reading } => {

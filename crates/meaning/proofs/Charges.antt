@@ -7,7 +7,7 @@ use lib.IntN.{ℤ}
 use lib.ListN.{length, length-append, length-drop}
 use Rattle.words.specs.declared.Registration.{Registration}
 use Rattle.words.specs.declared.Reading.{Reading}
-use Rattle.words.specs.Registration.{withoutCharges, registrationWord, registrationInRange}
+use Rattle.words.specs.Registration.{withoutCharges, registrationWord, registrationInRange, registrationWithoutCharges}
 use Rattle.words.specs.Reading.{readingWord}
 use Rattle.words.specs.Mpan.{isMpan}
 use Rattle.words.proofs.Tests.{by-test}
@@ -29,7 +29,7 @@ use Rattle.calls.proofs.RegisterCall.{register-out-of-range}
 use Rattle.allocation.specs.Allocate.{allocateCall}
 use Rattle.allocation.proofs.Charges.{answer-without-charges, volumes-without-charges}
 use Rattle.meaning.specs.Demand.{allocationAfter}
-use Rattle.meaning.specs.Charges.{registrationWithoutCharges, BooksAlike, CallAlike, registers-alike, same-call, CallsAlike, no-calls, next-call, AllocationSame, ChargesIgnored}
+use Rattle.meaning.specs.Charges.{BooksAlike, CallAlike, registers-alike, same-call, CallsAlike, no-calls, next-call, AllocationSame, ChargesIgnored}
 use Rattle.meaning.proofs.Meant.{list-meant}
 
 -- two books
@@ -83,7 +83,6 @@ by-cause (suc k) made given = record { number = refl; books = given }
 
 -- alike registrations in range have alike words
 words-alike : (r q : Registration) → registrationWithoutCharges r ≡ registrationWithoutCharges q → registrationInRange r ≡ true → registrationInRange q ≡ true → withoutCharges (registrationWord r) ≡ withoutCharges (registrationWord q)
-unfolding registrationWithoutCharges
 words-alike r q e range other-range = word-without-charges r range ∙ ap registrationWord e ∙ sym (word-without-charges q other-range)
 
 module _ (b other : Book) (formed : wellFormed b ≡ true) (other-formed : wellFormed other ≡ true) (a : Alike b other) where

@@ -6,7 +6,7 @@ use mathlib.Core.List.{List, [], _∷_, map}
 use lib.IntN.{ℤ}
 use lib.ListN.{length}
 use Rattle.words.specs.declared.Registration.{Registration}
-use Rattle.words.specs.Registration.{registrationInRange}
+use Rattle.words.specs.Registration.{registrationInRange, registrationWithoutCharges}
 use Rattle.book.specs.Rows.{rowWithoutCharges}
 use Rattle.book.specs.Book.{Book, freshBook, usedRows, wellFormed}
 use Rattle.calls.specs.declared.Call.{Call}
@@ -14,22 +14,6 @@ use Rattle.calls.specs.declared.Call.the-variants.{Register}
 use Rattle.calls.specs.Calls.{numbersGiven}
 use Rattle.allocation.specs.Allocate.{Allocation, allocateCall}
 use Rattle.meaning.specs.Demand.{allocationAfter}
-
--- "the new fields" left out of the argument of a register call
-unfoldable pub registrationWithoutCharges : Registration → Registration
-registrationWithoutCharges r =
-    record {
-      segment = r .segment;
-      direction = r .direction;
-      status = r .status;
-      base = r .base;
-      flag = r .flag;
-      additional = r .additional;
-      category = r .category;
-      llf = r .llf;
-      network = 0;
-      tariff = 0;
-    }
 
 -- well-formed books that differ only in them
 pub record BooksAlike (b other : Book) : Type 0 where

@@ -15,6 +15,7 @@ ghost use Rattle.book.specs.Book.{lent};
 ghost use Rattle.calls.specs.declared.Call.the-variants.{Register, Record, Set};
 ghost use Rattle.calls.specs.Calls.{callOutcome, Gives};
 ghost use Rattle.allocation.specs.Allocate.{allocateCall, AllocationGives};
+ghost use Rattle.totals.specs.Totals.{totalsCall, TotalsGives};
 ghost use Rattle.listing.specs.Listed.{listCall, ListGives};
 ghost use Rattle.listing.specs.Settle.{SettleGives};
 
@@ -96,6 +97,19 @@ pub extern "C" fn cepnhoy_allocate(
     ensures { λ r. ⌜ AllocationGives (allocateCall (lent settings (now (rows .entry))) (now (volumes .entry))) r (now (rows .entry)) (now (volumes .exit)) ⌝ }
 {
     allocation::allocate::allocate(settings, rows, volumes)
+}
+
+#[no_mangle]
+pub extern "C" fn cepnhoy_totals(
+    settings: Settings,
+    rows: &[u64],
+    direction: u64,
+    network: u64,
+    totals: &mut [u64],
+) -> Answer
+    ensures { λ r. ⌜ TotalsGives (totalsCall (lent settings (now (rows .entry))) direction network (now (totals .entry))) r (now (rows .entry)) (now (totals .exit)) ⌝ }
+{
+    totals::totals::totals(settings, rows, direction, network, totals)
 }
 
 #[no_mangle]

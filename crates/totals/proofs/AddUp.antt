@@ -1,5 +1,5 @@
 -- What the totals of a well-formed book add up to: the consumption cells of a direction, and the meters that are not idle.
-use Prim.Native.Nat.{ℕ, _+_, _-_, _*_, _/_, _%_}
+use Prim.Native.Nat.{ℕ, _+_, _-_, _*_, _/_, _%_, _<_}
 use mathlib.Core.Path.{_≡_, refl, sym, ap, ap₂, _∙_, fun-ext}
 use mathlib.Core.Bool.{Bool, true, false, not, _&&_, cond, and-true, true≢false}
 use mathlib.Core.List.{List, [], _∷_, map}
@@ -16,12 +16,15 @@ use Rattle.words.proofs.Tests.{by-test}
 use Rattle.words.proofs.RegistrationWord.{unit-bound}
 use Rattle.book.specs.Limits.{classes}
 use Rattle.book.specs.Rows.{Row}
+use Rattle.book.specs.Book.{Book, usedRows, wellFormed}
+use Rattle.book.proofs.WellFormed.{formed-book, formed-settings}
 use Rattle.cells.specs.Energy.{Source, actualReading, estimatedReading, shapeDefault, noEnergy, sourceOf, energyFrom, energyWh, usedDeEnergised, readingSource, energised, deEnergised, Counts, countFor, countsOf, addCounts}
 use Rattle.cells.specs.Cells.{units, sumOver, isLossClass, energyIn, inCell, consumptionClass, consumptionCell, lossCell, cell, estimateBit}
 use Rattle.cells.proofs.Each.{Each}
-use Rattle.cells.proofs.RowBounds.{RowBounds, estimate-most}
+use Rattle.cells.proofs.RowBounds.{RowBounds, rows-bounds, estimate-most}
 use Rattle.totals.specs.Totals.{tariffs, networks, isCharged, actualFrom, otherFrom, actualWh, otherWh, isIdle, oneOf, sumWhere}
-use Rattle.totals.specs.Laws.{sumBelow, isConsumptionOf}
+use Rattle.totals.specs.Laws.{sumBelow, wordFor, whOverAll, isConsumptionOf, cellsOverAll, metersOverAll, TotalsAddUp}
+use Rattle.totals.proofs.TotalAt.{wordGives, total-sum}
 use Rattle.totals.proofs.SumBelow.{sum-below-same, sum-below-place, sum-below-over, sum-below-only, onlyAt, sum-over-same}
 
 -- totals as sums over meters
@@ -225,3 +228,32 @@ module _ (meters : List Row) where
       ∙ sum-below-over (directionMost + 1) (λ direction registration reading. cond (eqb (directionOf registration) direction) (pos (ones registration reading)) (pos 0)) meters
       ∙ ap (λ (g : ℕ → ℕ → ℤ). sumOver g meters) (fun-ext (λ registration. fun-ext (λ reading. sum-below-only (directionMost + 1) (directionOf registration) (pos (ones registration reading)) (omega arith) ∙ ap pos (counted-one registration reading))))
       ∙ counted-all meters
+
+-- as theorems about every well-formed book
+module _ (b : Book) (formed : wellFormed b ≡ true) where
+  bounds : Each (RowBounds (b .settings .shapes)) (usedRows b)
+  bounds =
+      let book = formed-book b formed in
+      rows-bounds (b .settings .shapes) (formed-settings (b .settings) (book .settings-formed) .shapes-formed) 0 (usedRows b) (book .rows-formed)
+
+  -- two words of a tariff together
+  words-are : (direction network tariff j k : ℕ) → tariff < tariffs → j < 4 → k < 4 → wordFor b direction network tariff j + wordFor b direction network tariff k
+      ≡ sumWhere (isCharged direction network tariff) (wordGives (b .settings .shapes) j) (usedRows b) + sumWhere (isCharged direction network tariff) (wordGives (b .settings .shapes) k) (usedRows b)
+  words-are direction network tariff j k h l m =
+      ap₂ (λ (x y : ℕ). x + y)
+      (total-sum (b .settings .shapes) (usedRows b) direction network tariff j h l)
+      (total-sum (b .settings .shapes) (usedRows b) direction network tariff k h m)
+
+  pub totals-add-up : TotalsAddUp b
+  unfolding whOverAll cellsOverAll metersOverAll
+  totals-add-up =
+      record {
+        wh =
+            λ direction few.
+            sum-below-same networks _ _ (λ network h. sum-below-same tariffs _ _ (λ tariff l. ap pos (words-are direction network tariff 0 1 l (omega arith) (omega arith))))
+            ∙ wh-over-all (b .settings .shapes) direction (usedRows b)
+            ∙ sym (cells-over-all (b .settings .shapes) direction bounds);
+        meters =
+            sum-below-same (directionMost + 1) _ _ (λ direction k. sum-below-same networks _ _ (λ network h. sum-below-same tariffs _ _ (λ tariff l. ap pos (words-are direction network tariff 2 3 l (omega arith) (omega arith)))))
+            ∙ meters-over-all (usedRows b);
+      }

@@ -5,6 +5,7 @@ use book::Stored;
 use book::rows::find;
 use book::rows::find_near;
 use book::rows::row_capacity;
+use book::store::registration_asked;
 use book::store::store_reading;
 use book::store::store_registration;
 use words::Reading;
@@ -50,15 +51,16 @@ pub fn register_apart(
     requires { ⌜ PartsReady first later (now rows) ⌝ }
     ensures { λ r. ⌜ StoresApart mpan (registrationStoring (capacity (now (rows .entry))) mpan registration) first later (now (rows .entry)) r (now (rows .exit)) ⌝ }
 {
+    let asked = registration_asked(mpan, registration);
     let place = find(rows, first, mpan);
     if place.known {
-        let stored = store_registration(first, place, rows, mpan, registration);
+        let stored = store_registration(first, place, rows, mpan, asked);
         return stored_first(later, stored);
     }
     let place = find_later(first, later, rows, mpan);
     let start = 3 * first;
     let end = 3 * row_capacity(rows);
-    store_registration(later, place, &mut rows[start..end], mpan, registration)
+    store_registration(later, place, &mut rows[start..end], mpan, asked)
 }
 
 // Stores a meter's reading if its issue is above the one held, where a search of the first part gave `held`.

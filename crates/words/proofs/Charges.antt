@@ -5,7 +5,7 @@ use mathlib.Core.Bool.{true}
 use native.Mathlib.Omega.{arith}
 use lib.Pow.{field, mod-mod-pow}
 use Rattle.words.specs.declared.Registration.{Registration}
-use Rattle.words.specs.Registration.{bitField, segmentOf, directionOf, statusOf, baseOf, flagOf, additionalOf, categoryOf, llfOf, unitOf, registrationWord, registrationInRange, withoutCharges}
+use Rattle.words.specs.Registration.{bitField, segmentOf, directionOf, statusOf, baseOf, flagOf, additionalOf, categoryOf, llfOf, unitOf, registrationWord, registrationInRange, withoutCharges, registrationWithoutCharges}
 use Rattle.words.proofs.Ranges.{registration-bounds}
 
 -- the bits from a place on do not change a field that ends at or before it
@@ -51,19 +51,6 @@ module _ (w : ℕ) where
 
 -- the word of a registration in range
 pub word-without-charges : (r : Registration) → registrationInRange r ≡ true
-    → withoutCharges (registrationWord r)
-    ≡ registrationWord
-    (record {
-      segment = r .segment;
-      direction = r .direction;
-      status = r .status;
-      base = r .base;
-      flag = r .flag;
-      additional = r .additional;
-      category = r .category;
-      llf = r .llf;
-      network = 0;
-      tariff = 0;
-    })
-unfolding withoutCharges registrationWord
+    → withoutCharges (registrationWord r) ≡ registrationWord (registrationWithoutCharges r)
+unfolding withoutCharges registrationWithoutCharges registrationWord
 word-without-charges r ok = omega (arith, registration-bounds r ok)

@@ -48,9 +48,24 @@ networkOf w = bitField w 33 6
 abbrev pub tariffOf : ℕ → ℕ
 tariffOf w = bitField w 39 10
 
--- request 1: "the new fields", the network and the tariff, left out of a word
+-- request 1: "the new fields", the network and the tariff, left out of a word and of a registration
 unfoldable pub withoutCharges : ℕ → ℕ
 withoutCharges w = w % 2 ^ 33
+
+unfoldable pub registrationWithoutCharges : Registration → Registration
+registrationWithoutCharges r =
+    record {
+      segment = r .segment;
+      direction = r .direction;
+      status = r .status;
+      base = r .base;
+      flag = r .flag;
+      additional = r .additional;
+      category = r .category;
+      llf = r .llf;
+      network = 0;
+      tariff = 0;
+    }
 
 -- "Word 1, from bit 0": the fields of a word, together
 unfoldable pub registrationOf : ℕ → Registration

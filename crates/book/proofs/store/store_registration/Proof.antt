@@ -1,14 +1,13 @@
 -- `store_registration` leaves what storing a registration leaves: one law for each way it ends. Assumes nothing.
 use Prim.Native.Nat.{_+_, _*_, _-_, _≤_, _<_}
-use mathlib.Core.Path.{_≡_, sym, _∙_, ap}
-use mathlib.Core.Bool.{true, false, and-eq-true-iff}
+use mathlib.Core.Path.{_≡_, refl, sym, _∙_, ap}
+use mathlib.Core.Bool.{true, false}
 use native.Mathlib.Omega.{arith}
 use borrow.Author.Needs.{needs}
 use borrow.Author.Tests.{not-true, not-false}
 use lib.ListN.{length, length-drop}
 use Rattle.book.specs.declared.Place.{Place}
 use Rattle.book.specs.Rows.{capacity, rowsOf, isKnown}
-use Rattle.book.specs.Store.{registerInRange}
 use Rattle.book.specs.Helpers.{placeOf}
 use Rattle.book.proofs.RowsOf.{length-rows}
 use Rattle.book.proofs.PlaceOf.{known-within-in, place-within-in}
@@ -31,13 +30,12 @@ has-room c = room (c .args .rows .now) (c .args .meters) (c .pre .0 .within-capa
 index-within : (c : tie.Start) → c .args .place .index ≤ c .args .meters
 index-within c = omega (arith, index-is c, place-within-in (c .args .rows .now) (c .args .meters) (c .args .mpan))
 
--- where the registration passed the test of its range
-in-range : (c : tie.Else1) → registerInRange (c .before .before .before .args .mpan) (c .before .before .before .args .registration) ≡ true
-in-range c = sym (c .before .register-in-range .ensures) ∙ not-false _ (c .if1 .left)
+-- where the arguments of the call are in range
+abbrev start : tie.Else1 → tie.Start
+start c = c .before .before .before
 
--- and its word has been packed
-abbrev start : tie.After-pack → tie.Start
-start c = c .before .before .before .before
+in-range : (c : tie.Else1) → start c .args .asked .ok ≡ true
+in-range c = not-false _ (c .if1 .left)
 
 -- where the meter is known: its row is within the slice
 known : (c : tie.Then2) → isKnown (start (c .before) .args .mpan) (rowsOf (start (c .before) .args .meters) (start (c .before) .args .rows .now)) ≡ true
@@ -62,19 +60,13 @@ free c = omega (arith, c .before .row-capacity .ensures, c .if3 .left)
 new-room : (c : tie.Else3) → 3 * (entered c .args .meters + 1) ≤ length (entered c .args .rows .now)
 new-room c = room (entered c .args .rows .now) (entered c .args .meters + 1) (omega (arith, free c))
 
-register-in-range-requires : tie.Need-register-in-range-requires
-register-in-range-requires c κs = search needs
-
 not-stored-requires : tie.Need-not-stored-requires
 not-stored-requires c κs = search needs
 
 returns : tie.Need-returns
 returns c =
     keeps (c .before .before .before .before .pre .0) (c .not-stored .ensures)
-    (registration-out-of-range _ _ _ _ (sym (c .before .before .register-in-range .ensures) ∙ not-true _ (c .before .if1 .taken)))
-
-pack-requires : tie.Need-pack-requires
-pack-requires c κs = simp and-eq-true-iff at (in-range c) .1
+    (registration-out-of-range _ _ _ _ (not-true _ (c .before .if1 .taken)))
 
 mul-at : tie.Need-mul-at
 mul-at c = omega (arith, index-within (start c), has-room (start c), start c .good)
@@ -113,7 +105,7 @@ returns-2 : tie.Need-returns-2
 returns-2 c =
     let t = c .before .before in
     let s = start (t .before) in
-    registration-stored _ (s .pre .0) (index-is s) _ (t .before .pack .ensures) (in-range (t .before .before)) (known t)
+    registration-stored _ (s .pre .0) (index-is s) _ (in-range (t .before)) (known t)
 
 row-capacity-requires : tie.Need-row-capacity-requires
 row-capacity-requires c κs = search needs
@@ -129,7 +121,7 @@ returns-3 c =
     let e = c .before .before .before .before in
     let s = start (e .before) in
     keeps (s .pre .0) (c .not-stored2 .ensures)
-    (registration-no-room _ _ _ _ (in-range (e .before .before)) (unknown e)
+    (registration-no-room _ _ _ _ (in-range (e .before)) (unknown e)
     (omega (arith, length-rows (s .args .meters) (s .args .rows .now), c .before .before .row-capacity .ensures, c .before .if3 .taken)))
 
 mul-insert-row : tie.Need-mul-insert-row
@@ -154,8 +146,8 @@ insert-row-requires c κs =
     rw (rest-part (3 * s .args .place .index) (s .args .rows .now))
     (omega (arith, length-drop (3 * s .args .place .index) (s .args .rows .now), new-room e, index-within s))
 
-add-t21 : tie.Need-add-t21
-add-t21 c = search needs
+add-count : tie.Need-add-count
+add-count c = search needs
 
 nothing-held-requires : tie.Need-nothing-held-requires
 nothing-held-requires c κs = search needs
@@ -167,19 +159,17 @@ returns-4 : tie.Need-returns-4
 returns-4 c =
     let e = c .before .before .before .before .before in
     let s = entered e in
-    let p = e .before .before .before .before in
+    let o = e .before .before .before in
     rw (c .nothing-held .ensures)
-    (row-inserted _ (s .pre .0) (index-is s) _ (p .pack .ensures) (in-range (p .before)) (unknown (e .before .before .before)) (free e)
-    (inserted-words (s .args .meters) (s .args .mpan) (s .args .rows .now) (index-is s) (p .pack .ensures) (c .before .before .before .insert-row .ensures)))
+    (row-inserted _ (s .pre .0) (index-is s) _ (in-range (o .before)) (unknown o) (free e)
+    (inserted-words (s .args .meters) (s .args .mpan) (s .args .rows .now) (index-is s) refl (c .before .before .before .insert-row .ensures)))
 
 pub store-registration-spec : {M : Type 1} → statement M
 store-registration-spec =
     tie.close
     (tie.spec
-    register-in-range-requires
     not-stored-requires
     returns
-    pack-requires
     mul-at
     add-held
     mul-held
@@ -202,7 +192,7 @@ store-registration-spec =
     part-insert-row-end
     sub-insert-row-2
     insert-row-requires
-    add-t21
+    add-count
     nothing-held-requires
     same-length-3
     returns-4)

@@ -6,6 +6,7 @@ use borrow.Author.Needs.{needs}
 use Rattle.book.specs.Book.{lent, wellFormed}
 use Rattle.book.specs.Helpers.{RowsReady}
 use Rattle.book.proofs.WellFormed.{rows-ready, ready-to-search}
+use Rattle.book.proofs.Storing.{asked-stores}
 use Rattle.calls.proofs.Answers.{gives-ill-formed, gives-replaced, gives-registered, gives-recorded}
 use Rattle.calls.proofs.make.make_call.Statement.{statement}
 use Rattle.calls.proofs.make.make_call.Tie as tie
@@ -35,8 +36,11 @@ enum-known-call c = search needs
 find-requires : tie.Need-find-requires
 find-requires c κs = ready-to-search (ready (c .before .before .before .before))
 
+registration-asked-requires : tie.Need-registration-asked-requires
+registration-asked-requires c κs = search needs
+
 store-registration-requires : tie.Need-store-registration-requires
-store-registration-requires c κs = (ready (c .before .before .before .before .before .before), c .before .find .ensures)
+store-registration-requires c κs = (ready (c .before .before .before .before .before .before .before), c .before .before .find .ensures)
 
 counted-requires : tie.Need-counted-requires
 counted-requires c κs = search needs
@@ -64,9 +68,9 @@ same-length-2 c = search needs
 
 returns-2 : tie.Need-returns-2
 returns-2 c =
-    let e = c .before .before .before .before .before .before .before .before .before .before in
-    rw (c .before .before .before .before .before .before .before .before .call .given .1, c .counted .ensures)
-    (gives-registered _ _ (formed e) _ _ (c .before .before .before .store-registration .ensures))
+    let e = c .before .before .before .before .before .before .before .before .before .before .before in
+    rw (c .before .before .before .before .before .before .before .before .before .call .given .1, c .counted .ensures)
+    (gives-registered _ _ (formed e) _ _ (asked-stores _ _ _ (c .before .before .before .before .before .registration-asked .ensures) (c .before .before .before .store-registration .ensures)))
 
 same-length-3 : tie.Need-same-length-3
 same-length-3 c = search needs
@@ -94,6 +98,7 @@ make-call-spec =
     returns
     enum-known-call
     find-requires
+    registration-asked-requires
     store-registration-requires
     counted-requires
     enum-known-call-2

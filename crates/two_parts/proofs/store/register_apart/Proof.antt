@@ -7,6 +7,7 @@ use lib.ListN.{length}
 use Rattle.book.specs.declared.Place.{Place}
 use Rattle.book.specs.Rows.{rowsOf, isKnown}
 use Rattle.book.proofs.WellFormed.{room}
+use Rattle.book.proofs.Storing.{asked-stores}
 use Rattle.two_parts.proofs.LaterStored.{lent-place}
 use Rattle.two_parts.proofs.RegisteredApart.{registered-there, registered-apart}
 use Rattle.two_parts.proofs.store.register_apart.Statement.{statement}
@@ -14,7 +15,7 @@ use Rattle.two_parts.proofs.store.register_apart.Tie as tie
 
 -- where the search in the first part is done
 abbrev start : tie.After-find → tie.Start
-start c = c .before .before .before
+start c = c .before .before .before .before
 
 known-is : (c : tie.After-find) → c .find .result .known ≡ isKnown (start c .args .mpan) (rowsOf (start c .args .first) (start c .args .rows .now))
 known-is c = ap (λ (p : Place). p .known) (c .find .ensures)
@@ -29,9 +30,12 @@ missed c = c .before .before .before .before .before
 end-within : (c : tie.After-row-capacity) → 3 * c .row-capacity .result ≤ length (start (missed c) .args .rows .now)
 end-within c = room (start (missed c) .args .rows .now) (c .row-capacity .result) (omega (arith, c .row-capacity .ensures))
 
+registration-asked-requires : tie.Need-registration-asked-requires
+registration-asked-requires c κs = search needs
+
 find-requires : tie.Need-find-requires
 find-requires c κs =
-    let s = c .before .before in
+    let s = c .before .before .before in
     (omega (arith, has-room s), s .pre .first-formed)
 
 store-registration-requires : tie.Need-store-registration-requires
@@ -47,7 +51,7 @@ returns : tie.Need-returns
 returns c =
     let t = c .before .before .before .before .before in
     rw (c .stored-first .ensures)
-    (registered-there _ _ _ (start (t .before) .pre) _ _ (sym (known-is (t .before)) ∙ t .if1 .taken) (c .before .before .before .store-registration .ensures))
+    (registered-there _ _ _ (start (t .before) .pre) _ _ (sym (known-is (t .before)) ∙ t .if1 .taken) (asked-stores _ _ _ (t .before .before .before .registration-asked .ensures) (c .before .before .before .store-registration .ensures)))
 
 find-later-requires : tie.Need-find-later-requires
 find-later-requires c κs = start (c .before .before) .pre
@@ -84,12 +88,13 @@ same-length-2 c = search needs
 returns-2 : tie.Need-returns-2
 returns-2 c =
     let r = c .before .before .before .before in
-    registered-apart _ _ _ (start (missed r) .pre) _ _ (sym (known-is (missed r)) ∙ r .before .before .before .before .if1 .left) (r .row-capacity .ensures) (c .before .before .store-registration2 .ensures)
+    registered-apart _ _ _ (start (missed r) .pre) _ _ (sym (known-is (missed r)) ∙ r .before .before .before .before .if1 .left) (r .row-capacity .ensures) (asked-stores _ _ _ (missed r .before .before .registration-asked .ensures) (c .before .before .store-registration2 .ensures))
 
 pub register-apart-spec : {M : Type 1} → statement M
 register-apart-spec =
     tie.close
     (tie.spec
+    registration-asked-requires
     find-requires
     store-registration-requires
     stored-first-requires

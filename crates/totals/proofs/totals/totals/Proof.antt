@@ -1,0 +1,92 @@
+-- `totals` gives the outcome of the totals call: one law for each way it ends. Assumes nothing.
+use Prim.Native.Nat.{_≤_}
+use mathlib.Core.Path.{_≡_, sym, _∙_}
+use mathlib.Core.Bool.{true, false, _&&_}
+use borrow.Author.Needs.{needs}
+use borrow.Author.Tests.{not-true, not-false}
+use lib.Dec.{leb}
+use lib.ListN.{length}
+use Rattle.words.specs.Limits.{directionMost, networkMost}
+use Rattle.book.specs.Limits.{categories}
+use Rattle.book.specs.Book.{wellFormed, lent}
+use Rattle.totals.specs.Totals.{totalsWords}
+use Rattle.totals.proofs.Ways.{way-ill-formed, way-out-of-range, way-short, way-lacks, way-written, meters-room, add-rows-arguments}
+use Rattle.totals.proofs.totals.totals.Statement.{statement}
+use Rattle.totals.proofs.totals.totals.Tie as tie
+
+-- what each test that let the call go on has shown
+
+formed : (c : tie.Else1) → wellFormed (lent (c .before .before .before .before .args .settings) (c .before .before .before .before .args .rows .now)) ≡ true
+formed c = sym (c .before .is-formed .ensures) ∙ not-false _ (c .if1 .left)
+
+in-range : (c : tie.Else2) → let a = c .before .before .before .before .before .before .args in (leb (a .direction) directionMost && leb (a .network) networkMost) ≡ true
+in-range c = sym (c .before .in-range .ensures) ∙ not-false _ (c .if2 .left)
+
+shapes-long : (c : tie.Start) → length (c .args .settings .shapes) ≡ categories
+shapes-long c = search needs
+
+is-formed-requires : tie.Need-is-formed-requires
+is-formed-requires c κs = search needs
+
+returns : tie.Need-returns
+returns c = way-ill-formed _ _ _ _ _ (sym (c .before .is-formed .ensures) ∙ not-true _ (c .if1 .taken))
+
+in-range-requires : tie.Need-in-range-requires
+in-range-requires c κs = search needs
+
+returns-2 : tie.Need-returns-2
+returns-2 c = way-out-of-range _ _ _ _ _ (formed (c .before .before)) (sym (c .before .in-range .ensures) ∙ not-true _ (c .if2 .taken))
+
+returns-3 : tie.Need-returns-3
+returns-3 c = way-short _ _ _ _ _ (formed (c .before .before .before)) (in-range (c .before)) (c .if3 .taken)
+
+-- where the shapes are lent: what was tested before
+abbrev tested : tie.After-shapes2 → tie.Else3
+tested c = c .before .before
+
+any-lacks-requires : tie.Need-any-lacks-requires
+any-lacks-requires c κs =
+    let e = tested c in
+    (meters-room _ _ (formed (e .before .before .before)), shapes-long (e .before .before .before .before .before .before .before))
+
+returns-4 : tie.Need-returns-4
+returns-4 c =
+    let e = tested (c .before .before) in
+    way-lacks _ _ _ _ _ (formed (e .before .before .before)) (in-range (e .before)) (e .if3 .left) (sym (c .before .any-lacks .ensures) ∙ c .if4 .taken)
+
+fill-requires : tie.Need-fill-requires
+fill-requires c κs = search needs
+
+add-rows-requires : tie.Need-add-rows-requires
+add-rows-requires c κs =
+    let f = c .before .before .before .before in
+    let e = tested (f .before .before .before .before) in
+    let s = e .before .before .before .before .before .before .before in
+    add-rows-arguments _ _ (formed (e .before .before .before)) (shapes-long s) (s .args .totals .now) (f .fill .ensures)
+
+same-length : tie.Need-same-length
+same-length c = search needs
+
+returns-5 : tie.Need-returns-5
+returns-5 c =
+    let r = c .before .before in
+    let f = r .before .before .before .before .before in
+    let lacks = f .before .before .before in
+    let e = tested (lacks .before) in
+    way-written _ _ _ _ _ (formed (e .before .before .before)) (in-range (e .before)) (e .if3 .left) (sym (lacks .any-lacks .ensures) ∙ f .before .before .if4 .left) (f .fill .ensures) (r .add-rows .ensures)
+
+pub totals-spec : {M : Type 1} → statement M
+totals-spec =
+    tie.close
+    (tie.spec
+    is-formed-requires
+    returns
+    in-range-requires
+    returns-2
+    returns-3
+    any-lacks-requires
+    returns-4
+    fill-requires
+    add-rows-requires
+    same-length
+    returns-5)
