@@ -8,14 +8,8 @@ use crate::random::Random;
 /// A totals call on a book: mostly for the direction and network of one of its meters, with a slice that is long enough. Now and
 /// then one of the two is out of range, or the slice is too short, or both.
 pub fn random_asked(contents: &Contents, random: &mut Random) -> Asked {
-    let mut asked = Asked {
-        direction: random.below(2),
-        network: random_number(63, random),
-        words: match random.percent(15) {
-            true => *random.pick(&[0, 1, WORDS - 1, random.clone().index(WORDS)]),
-            false => WORDS + *random.pick(&[0, 0, 1, 2, 4, 100]),
-        },
-    };
+    let mut asked =
+        Asked { direction: random.below(2), network: random_number(63, random), words: random_words(random) };
     if !contents.meters.is_empty() && random.percent(75) {
         let (registration, _) = random.pick(&contents.meters);
         asked.network = registration.network;
@@ -27,6 +21,15 @@ pub fn random_asked(contents: &Contents, random: &mut Random) -> Asked {
         spoil(&mut asked, random);
     }
     asked
+}
+
+/// How many words the slice has: mostly enough.
+fn random_words(random: &mut Random) -> usize {
+    let short = random.index(WORDS);
+    match random.percent(15) {
+        true => *random.pick(&[0, 1, WORDS - 1, short]),
+        false => WORDS + *random.pick(&[0, 0, 1, 2, 4, 100]),
+    }
 }
 
 /// Takes the direction or the network out of its range, rarely both.

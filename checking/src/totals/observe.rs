@@ -3,7 +3,7 @@
 use std::collections::BTreeMap;
 
 use crate::model::allocation::{Contents, Energy};
-use crate::model::totals::{energies, totals_causes, Asked, Totals, WORDS};
+use crate::model::totals::{energies, totals_causes, Asked, Totals};
 use crate::reach::Reach;
 use crate::situation::Situation;
 use cepnhoy::Registration;
@@ -48,9 +48,8 @@ fn note_lacking(reach: &mut Reach, contents: &Contents, asked: &Asked) {
 fn note_words(reach: &mut Reach, contents: &Contents, words: &[u64]) {
     let all_zero = words.iter().all(|word| *word == 0);
     reach.note_if(Situation::TotalsAllZero, all_zero && !contents.meters.is_empty());
-    let wh = words.chunks_exact(4).flat_map(|of_tariff| &of_tariff[..2]);
-    reach.note_if(Situation::TotalsPast32Bits, wh.clone().any(|wh| *wh > u32::MAX.into()));
-    debug_assert_eq!(words.len(), WORDS);
+    let mut wh = words.chunks_exact(4).flat_map(|of_tariff| &of_tariff[..2]);
+    reach.note_if(Situation::TotalsPast32Bits, wh.any(|wh| *wh > u32::MAX.into()));
 }
 
 /// Notes what meters the totals are of.
