@@ -1,12 +1,12 @@
 -- One more meter after the others: what it changes in the totals.
-use Prim.Native.Nat.{ℕ, zero, suc, _+_, _*_, _≤_, _<_}
+use Prim.Native.Nat.{ℕ, zero, suc, _+_, _*_, _<_}
 use mathlib.Core.Path.{_≡_, refl, ap, sym, _∙_}
-use mathlib.Core.Bool.{Bool, true, false, not, _&&_, cond, true≢false, and-false}
+use mathlib.Core.Bool.{Bool, true, false, not, _&&_, cond, true≢false}
 use mathlib.Core.List.{List, [], _∷_, _++_}
 use native.Mathlib.Omega.{arith}
 use borrow.Author.Tests.{eq-eqb, ne-eqb, eqb-true, eqb-false}
 use lib.Dec.{eqb}
-use lib.ListN.{length, getD, set, length-set, List·getD-append}
+use lib.ListN.{length, getD, length-set, List·getD-append}
 use lib.Seq.{getD-set-same, getD-set-other, set-append-left}
 use Rattle.words.specs.Registration.{directionOf, statusOf, networkOf, tariffOf}
 use Rattle.words.proofs.Tests.{by-test, same-test}
@@ -14,14 +14,14 @@ use Rattle.book.specs.Rows.{Row}
 use Rattle.cells.specs.declared.Use.{Use}
 use Rattle.cells.specs.Energy.{Source, actualReading, estimatedReading, shapeDefault, noEnergy, sourceOf, energyWh, energised, deEnergised}
 use Rattle.cells.specs.Helpers.{sourceNumber, useOf}
-use Rattle.totals.specs.Totals.{tariffs, totalsWords, isCharged, actualFrom, otherFrom, isIdle, oneOf, sumWhere, totalsOf}
+use Rattle.totals.specs.Totals.{tariffs, totalsWords, isCharged, actualFrom, otherFrom, isIdle, oneOf, totalsOf}
 use Rattle.totals.specs.Helpers.{increased, energyWord, countWord, withMeter}
 use Rattle.totals.proofs.SumWhere.{sum-where-last}
 use Rattle.totals.proofs.TotalAt.{wordGives, totals-length, total-sum, totals-are}
 
 -- an amount added to one number of a list
 
-pub increased-at : (xs : List ℕ) (at amount j : ℕ) → at < length xs → getD (increased xs at amount) j 0 ≡ getD xs j 0 + cond (eqb at j) amount 0
+increased-at : (xs : List ℕ) (at amount j : ℕ) → at < length xs → getD (increased xs at amount) j 0 ≡ getD xs j 0 + cond (eqb at j) amount 0
 increased-at xs at amount j h =
     by-test (eqb at j)
     (λ t.

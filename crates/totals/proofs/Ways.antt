@@ -1,12 +1,12 @@
 -- The ways of a totals call, one for each cause and one for acceptance, and what its steps need.
 use Prim.Native.Nat.{ℕ, suc, _*_, _≤_, _<_}
-use mathlib.Core.Path.{_≡_, refl, sym, _∙_, ap}
+use mathlib.Core.Path.{_≡_, refl, _∙_, ap}
 use mathlib.Core.Bool.{true, false, _&&_}
 use mathlib.Core.List.{List, _++_}
 use native.Mathlib.Omega.{arith}
 use borrow.Author.Tests.{lt-ltb, le-ltb}
 use lib.Dec.{leb}
-use lib.ListN.{length, getD, drop, replicate, length-append, length-drop, length-replicate, getD-replicate, List·getD-append}
+use lib.ListN.{length, getD, drop, replicate, length-append, length-replicate, getD-replicate, List·getD-append}
 use lib.Seq.{drop-at}
 use Rattle.refusals.specs.Causes.{bookIllFormed, argumentOutOfRange, totalsShort, shapeOfDefaultMissing, accepted}
 use Rattle.words.specs.Limits.{directionMost, networkMost}

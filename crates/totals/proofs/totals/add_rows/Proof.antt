@@ -1,6 +1,6 @@
 -- `add_rows` meets its contract: after i rows the first words are the totals of the first i rows, and a turn is one meter more. Assumes nothing.
 use Prim.Native.Nat.{ℕ, _+_, _*_, _-_, _≤_, _<_}
-use mathlib.Core.Path.{_≡_, refl, sym, _∙_, ap}
+use mathlib.Core.Path.{_≡_, sym, _∙_, ap}
 use mathlib.Core.Bool.{Bool, true, false, _&&_}
 use mathlib.Core.Logic.{⊎-elim}
 use mathlib.Core.List.{List, [], _++_}
@@ -40,7 +40,7 @@ module _ (words : List ℕ) (n : ℕ) (shapes start : List ℕ) (ok : AddRowsArg
       let p : 4 * t + k < totalsWords = omega arith in
       omega (arith, getD-take totalsWords start (4 * t + k) 0 p, ok .totals-empty (4 * t + k) p, total-most shapes direction network no-entry (4 * t + k) p)))
 
-  pub same-size : (i : ℕ) → length (afterRows i) ≡ length start
+  same-size : (i : ℕ) → length (afterRows i) ≡ length start
   same-size i = rw (length-append, totals-length shapes (rowsOf i words) direction network 0 tariffs, length-drop) (omega (arith, ok .totals-long))
 
   -- a turn: row i
@@ -124,7 +124,7 @@ mul-use-of-2 c = omega arith
 shared-slice-read-use-of : tie.Need-shared-slice-read-use-of Inv-loop μ-loop
 shared-slice-read-use-of c = omega arith
 
--- where the row's energy has been worked out: what was known when the row was read
+-- where a row has been tested: what was known when its turn began
 abbrev turn : tie.After-is-asked Inv-loop μ-loop → tie.In-loop Inv-loop μ-loop
 turn c = c .before .before
 

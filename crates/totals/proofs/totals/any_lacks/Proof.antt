@@ -1,6 +1,6 @@
 -- `any_lacks` meets its contract: after i rows it has the answer for the first i rows, and a turn is one meter more. Assumes nothing.
 use Prim.Native.Nat.{ℕ, _+_, _*_, _-_, _≤_}
-use mathlib.Core.Path.{_≡_, refl, sym, _∙_}
+use mathlib.Core.Path.{_≡_, refl, sym}
 use mathlib.Core.Bool.{Bool, false, _||_}
 use mathlib.Core.List.{List}
 use native.Mathlib.Omega.{arith}

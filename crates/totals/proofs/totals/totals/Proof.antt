@@ -1,7 +1,6 @@
 -- `totals` gives the outcome of the totals call: one law for each way it ends. Assumes nothing.
-use Prim.Native.Nat.{_≤_}
 use mathlib.Core.Path.{_≡_, sym, _∙_}
-use mathlib.Core.Bool.{true, false, _&&_}
+use mathlib.Core.Bool.{true, _&&_}
 use borrow.Author.Needs.{needs}
 use borrow.Author.Tests.{not-true, not-false}
 use lib.Dec.{leb}
@@ -9,7 +8,6 @@ use lib.ListN.{length}
 use Rattle.words.specs.Limits.{directionMost, networkMost}
 use Rattle.book.specs.Limits.{categories}
 use Rattle.book.specs.Book.{wellFormed, lent}
-use Rattle.totals.specs.Totals.{totalsWords}
 use Rattle.totals.proofs.Ways.{way-ill-formed, way-out-of-range, way-short, way-lacks, way-written, meters-room, add-rows-arguments}
 use Rattle.totals.proofs.totals.totals.Statement.{statement}
 use Rattle.totals.proofs.totals.totals.Tie as tie
