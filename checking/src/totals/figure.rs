@@ -19,8 +19,10 @@ const CODE_A: u64 = 0;
 const CODE_E0: u64 = 7;
 const CODE_E2: u64 = 9;
 
-/// Direction, status, network, tariff, and the reading's quality and Wh if there is one. The shape is 40 Wh.
-const METERS: [(u64, u64, u64, u64, Option<(u64, u64)>); 9] = [
+/// Direction, status, network, tariff, and the reading's quality and Wh if there is one. The shape of all is 40 Wh.
+type Meter = (u64, u64, u64, u64, Option<(u64, u64)>);
+
+const METERS: [Meter; 9] = [
     (IMPORT, ENERGISED, 7, 5, Some((CODE_A, 1_000))),
     (IMPORT, ENERGISED, 7, 5, None),
     (IMPORT, DE_ENERGISED, 7, 5, Some((CODE_E2, 9))),

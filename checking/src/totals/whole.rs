@@ -3,7 +3,7 @@
 use super::{check_totals, random_asked};
 use crate::compare::{at, same, same_allocated, same_words, Checked, Failure};
 use crate::lent::Lent;
-use crate::model::allocation::{Cells, Sums};
+use crate::model::allocation::{is_export, is_loss, Cells, Sums};
 use crate::model::totals::WORDS;
 use crate::model::words::{registration_of, registration_word};
 use crate::model::Book;
@@ -29,10 +29,9 @@ fn added_up(lent: &mut Lent, direction: u64) -> Result<[u128; 4], Failure> {
     Ok(sums)
 }
 
-/// The sum of a direction's consumption cells, in Wh: those of even classes.
+/// The sum of a direction's consumption cells, in Wh.
 fn consumption_wh(cells: &Cells, direction: u64) -> u128 {
-    let is_wanted = |class: usize| class % 2 == 0 && class / 4 % 2 == direction as usize;
-    let wanted = cells.iter().filter(|((_, class), _)| is_wanted(*class));
+    let wanted = cells.iter().filter(|((_, class), _)| !is_loss(*class) && is_export(*class) == (direction == 1));
     wanted.map(|(_, thousandths)| u128::try_from(thousandths / 1_000).expect("consumption is at least 0")).sum()
 }
 
