@@ -12,16 +12,18 @@
  *
  * A fresh book is the settings that cepnhoy_fresh() gives, with rows that may hold any words. Calls
  * then register meters, record readings and set weights, load shapes, tolerance and Take, one by
- * one or a whole list at once; cepnhoy_allocate works out the volumes of the 32 units. Pass the
- * settings that one call returned, refused or not, to the next call with the same rows.
+ * one or a whole list at once; cepnhoy_allocate works out the volumes of the 32 units, and
+ * cepnhoy_totals what network charges are billed from. Pass the settings that one call returned,
+ * refused or not, to the next call with the same rows.
  *
  * Energy is in Wh. Weights and line loss factors are in thousandths, so 1000 stands for 1.
  *
  * ANSWERS
  *
- * Every call gives a number: 0 (CEPNHOY_ACCEPTED), or the number of one refusal. If several
- * refusals apply, the lowest number is given. A refused call changes nothing: the settings come
- * back as they went in, and no word of any array is written.
+ * Every call gives a number: 0 (CEPNHOY_ACCEPTED), or the number of one refusal. The refusals that
+ * a call can give stand beside it below, in the order in which they are looked for: if several
+ * apply, the first of these is given. A refused call changes nothing: the settings come back as
+ * they went in, and no word of any array is written.
  *
  * A list of calls has a number of its own and one for each of its calls. If the list is accepted,
  * its calls may still be refused, some or all of them, so look at every one of the numbers. See
@@ -40,7 +42,7 @@
  *     const.
  *   - It is aligned to 8 bytes and is not null, also when the length is 0. With length 0 it need
  *     not point to anything.
- *   - The rows, the calls, the numbers and the volumes of one call must not overlap.
+ *   - The rows, the calls, the numbers, the volumes and the totals of one call must not overlap.
  *   - The library keeps no pointer after a call returns.
  *
  * THREADS
@@ -48,7 +50,8 @@
  * The library has no variables of its own, takes no locks and allocates no memory. Calls on
  * different books may run at the same time. An array that a call may write (a parameter without
  * const) belongs to that call alone until it returns. Arrays behind const may be read by several
- * calls at the same time, so two threads may allocate one book, each into its own volumes.
+ * calls at the same time, so two threads may allocate one book, each into its own volumes, while
+ * others work out its totals, each into its own.
  *
  * STACK
  *
@@ -93,12 +96,14 @@ extern "C" {
 
 /* SIZES */
 
-#define CEPNHOY_METERS_MAX 65536 /* the most meters of a book, however long the rows are */
-#define CEPNHOY_UNITS 32         /* BM Units, numbered from 0 */
-#define CEPNHOY_CLASSES 24       /* classes of energy, numbered from 0; each has a weight */
-#define CEPNHOY_CATEGORIES 64    /* load shape categories, numbered from 0; each has a load shape */
-#define CEPNHOY_ROW_WORDS 3      /* words of a meter's row */
-#define CEPNHOY_CALL_WORDS 10    /* words of a call in a list */
+#define CEPNHOY_METERS_MAX 65536  /* the most meters of a book, however long the rows are */
+#define CEPNHOY_UNITS 32          /* BM Units, numbered from 0 */
+#define CEPNHOY_CLASSES 24        /* classes of energy, numbered from 0; each has a weight */
+#define CEPNHOY_CATEGORIES 64     /* load shape categories, numbered from 0; each has a shape */
+#define CEPNHOY_TARIFFS 1024      /* tariffs of network charges, numbered from 0 */
+#define CEPNHOY_ROW_WORDS 3       /* words of a meter's row */
+#define CEPNHOY_CALL_WORDS 12     /* words of a call in a list */
+#define CEPNHOY_TOTALS_WORDS 4096 /* words of totals, four for each tariff */
 
 /* RANGES
  *
@@ -115,6 +120,8 @@ extern "C" {
 #define CEPNHOY_CATEGORY_MAX 63
 #define CEPNHOY_LLF_MIN 500 /* line loss factor, in thousandths */
 #define CEPNHOY_LLF_MAX 2000
+#define CEPNHOY_NETWORK_MAX 63 /* embedded network, 0 for none */
+#define CEPNHOY_TARIFF_MAX 1023
 
 #define CEPNHOY_ISSUE_MIN 1
 #define CEPNHOY_ISSUE_MAX UINT32_C(4294967295)
@@ -177,7 +184,8 @@ extern "C" {
 #define CEPNHOY_SHAPE_OF_DEFAULT_MISSING 9 /* the load shape of a defaulted meter is missing */
 #define CEPNHOY_WEIGHTED_BELOW_ONE 10      /* W is below 1: no weighted energy to correct */
 #define CEPNHOY_TOLERANCE_EXCEEDED 11      /* the size of U x 1,000,000 is above tolerance x W */
-#define CEPNHOY_LIST_MISSHAPEN 19          /* calls_length no multiple of 10, or too few numbers */
+#define CEPNHOY_TOTALS_SHORT 12            /* the totals have fewer than 4,096 words */
+#define CEPNHOY_LIST_MISSHAPEN 19          /* calls_length no multiple of 12, or too few numbers */
 
 /* THE ROWS
  *
@@ -196,7 +204,9 @@ extern "C" {
  *     bits 11-15     additional unit; 0 if there is none
  *     bits 16-21     load shape category
  *     bits 22-32     line loss factor, in thousandths
- *     bits 33-63     0
+ *     bits 33-38     embedded network
+ *     bits 39-48     tariff
+ *     bits 49-63     0
  *   word 2         the reading, or 0 (CEPNHOY_NO_READING) if the meter has none
  *     bits 0-23      consumption in Wh
  *     bits 24-28     quality code
@@ -233,6 +243,8 @@ typedef struct {
     uint64_t additional; /* additional unit; if flag is 0, any number but 0 is out of range */
     uint64_t category;   /* load shape category */
     uint64_t llf;        /* line loss factor, in thousandths */
+    uint64_t network;    /* embedded network; 0 if the meter is on none */
+    uint64_t tariff;     /* of network charges; an allocation looks neither at it nor the network */
 } cepnhoy_registration;
 
 /* A reading. A meter keeps the one with the highest issue, in whatever order they come. */
@@ -242,7 +254,7 @@ typedef struct {
     uint64_t consumption; /* Wh */
 } cepnhoy_reading;
 
-/* The answer of a call that may change the book. */
+/* The answer of a call that does not allocate. */
 typedef struct {
     uint64_t number;           /* 0 or the number of a refusal */
     cepnhoy_settings settings; /* the settings afterwards */
@@ -267,7 +279,7 @@ typedef struct {
 
 /* SINGLE CALLS
  *
- * Beside each stand the refusals that it can give. */
+ * Beside each stand the refusals that it can give, in their order. */
 
 /* The settings of a fresh book: no meters, all weights 0, all load shapes missing, tolerance 1000,
  * no Take. */
@@ -312,10 +324,34 @@ cepnhoy_allocation_answer cepnhoy_allocate(
     cepnhoy_settings settings, const uint64_t *rows, size_t rows_length,
     int64_t *volumes, size_t volumes_length);
 
+/* Works out what network charges are billed from, for the meters of one direction and one embedded
+ * network (0 for those on none): four words for each tariff. Those of tariff t are
+ *
+ *   totals[4 * t]       actual Wh: of meters that use a reading with an actual code
+ *   totals[4 * t + 1]   other Wh: of meters that use one with another code, or are defaulted
+ *   totals[4 * t + 2]   how many of the meters are energised and not idle
+ *   totals[4 * t + 3]   how many of the meters are de-energised and not idle
+ *
+ * So words 0 to 3 are of tariff 0, words 4 to 7 of tariff 1, and words 4092 to 4095 of tariff 1023.
+ * A tariff that no such meter has gets four words 0. A meter that is not idle is counted also if
+ * its energy is 0 Wh. Losses are not in the totals; units, weights, tolerance and Take play no
+ * part, and the Take need not be set. The actual and other Wh of all tariffs and all 64 networks
+ * add up to the energy of that direction in all classes but those of losses.
+ *
+ * Words after the 4,096th are not written, the book is not changed, and the settings in the answer
+ * are those passed.
+ *
+ * Refusals 1, 2, 12, 9. Refusal 2 is a direction above 1 or a network above 63. Refusal 9 is given
+ * for any meter of the book, also one of another direction or network than those asked for. */
+cepnhoy_answer cepnhoy_totals(
+    cepnhoy_settings settings, const uint64_t *rows, size_t rows_length,
+    uint64_t direction, uint64_t network,
+    uint64_t *totals, size_t totals_length);
+
 /* LISTS OF CALLS
  *
- * A call in a list is ten words: its kind, then its arguments. Words that stand as - are not used
- * and may be anything.
+ * A call in a list is twelve words: its kind, then its arguments. Words that stand as - are not
+ * used and may be anything. An allocation and a totals call cannot stand in a list.
  *
  *   word  REGISTER         READING      SHAPE     WEIGHT       TOLERANCE  TAKE
  *   0     1                2            3         4            5          6
@@ -328,6 +364,8 @@ cepnhoy_allocation_answer cepnhoy_allocate(
  *   7     additional       -            -         -            -          -
  *   8     category         -            -         -            -          -
  *   9     LLF              -            -         -            -          -
+ *   10    network          -            -         -            -          -
+ *   11    tariff           -            -         -            -          -
  *
  * The Take may be negative: its word is the two's complement, which in C is (uint64_t)wh. A call of
  * any other kind is refused with 2. */

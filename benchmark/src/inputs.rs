@@ -1,6 +1,9 @@
 //! What is timed: a half hour of a number of meters, the same for both sides, drawn from a fixed seed.
 
-use cepnhoy::{Reading, Registration, CALL_WORDS, KIND_READING, KIND_REGISTER, KIND_SHAPE, KIND_TAKE, KIND_WEIGHT};
+use cepnhoy::{
+    Reading, Registration, CALL_WORDS, KIND_READING, KIND_REGISTER, KIND_SHAPE, KIND_TAKE, KIND_WEIGHT, NETWORK_MAX,
+    TARIFFS,
+};
 
 /// SplitMix64.
 pub struct Random(pub u64);
@@ -52,14 +55,30 @@ pub enum Single {
 impl Single {
     fn words(&self) -> [u64; CALL_WORDS] {
         match *self {
-            Single::Register { mpan, registration: r } => {
-                [KIND_REGISTER, mpan, r.segment, r.direction, r.status, r.base, r.flag, r.additional, r.category, r.llf]
-            }
-            Single::Reading { mpan, reading: r } => {
-                [KIND_READING, mpan, r.issue, r.quality, r.consumption, 0, 0, 0, 0, 0]
-            }
+            Single::Register { mpan, registration: r } => [
+                KIND_REGISTER,
+                mpan,
+                r.segment,
+                r.direction,
+                r.status,
+                r.base,
+                r.flag,
+                r.additional,
+                r.category,
+                r.llf,
+                r.network,
+                r.tariff,
+            ],
+            Single::Reading { mpan, reading: r } => filled([KIND_READING, mpan, r.issue, r.quality, r.consumption]),
         }
     }
+}
+
+/// The words of a call of few arguments, with 0 in those that its kind does not use.
+fn filled<const USED: usize>(used: [u64; USED]) -> [u64; CALL_WORDS] {
+    let mut words = [0; CALL_WORDS];
+    words[..USED].copy_from_slice(&used);
+    words
 }
 
 /// Mixed meters, as a real half hour has them: most are energised, and a twentieth are without a reading.
@@ -84,7 +103,14 @@ fn registration(random: &mut Random) -> Registration {
         additional: flag * random.below(32),
         category: random.below(64),
         llf: 950 + random.below(151),
+        network: network(random),
+        tariff: random.below(TARIFFS as u64),
     }
+}
+
+/// Half of the meters are on no embedded network.
+pub fn network(random: &mut Random) -> u64 {
+    random.below(2) * random.below(NETWORK_MAX + 1)
 }
 
 /// Codes 0 to 13: actual ones, and estimates.
@@ -148,9 +174,9 @@ impl HalfHour {
 }
 
 fn setting_words(take: u64) -> Vec<[u64; CALL_WORDS]> {
-    let weights = (0..24).map(|class| [KIND_WEIGHT, class, 1_000, 0, 0, 0, 0, 0, 0, 0]);
-    let shapes = (0..64).map(|category| [KIND_SHAPE, category, 100 + category, 0, 0, 0, 0, 0, 0, 0]);
-    let take = [KIND_TAKE, take, 0, 0, 0, 0, 0, 0, 0, 0];
+    let weights = (0..24).map(|class| filled([KIND_WEIGHT, class, 1_000]));
+    let shapes = (0..64).map(|category| filled([KIND_SHAPE, category, 100 + category]));
+    let take = filled([KIND_TAKE, take]);
     weights.chain(shapes).chain([take]).collect()
 }
 

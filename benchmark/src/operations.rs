@@ -2,9 +2,9 @@
 
 use std::hint::black_box;
 
-use crate::inputs::{at_the_end, at_the_front, HalfHour, Meter, Random, Single};
+use crate::inputs::{at_the_end, at_the_front, network, HalfHour, Meter, Random, Single};
 use crate::sides::{Side, LIBRARY};
-use cepnhoy::{Settings, CALL_WORDS, ROW_WORDS, UNITS};
+use cepnhoy::{Settings, CALL_WORDS, ROW_WORDS, TOTALS_WORDS, UNITS};
 
 /// How many single calls are timed together: few clocks are fine enough for one.
 pub const TOGETHER: usize = 32;
@@ -22,6 +22,7 @@ pub struct Outcome {
     pub book: Book,
     pub numbers: Vec<u64>,
     pub volumes: Vec<i64>,
+    pub totals: Vec<u64>,
     pub figures: Option<cepnhoy::Allocated>,
 }
 
@@ -29,6 +30,8 @@ pub enum Work {
     /// Single calls, one after the other.
     Singles(Vec<Single>),
     Allocations,
+    /// A totals call for each direction and network.
+    Totals(Vec<(u64, u64)>),
     /// The list in one call, and with the allocation after it from a fresh book.
     List(Vec<u64>),
     HalfHour(Vec<u64>),
@@ -72,6 +75,11 @@ fn later_readings(half_hour: &HalfHour, random: &mut Random) -> Vec<Single> {
         .collect()
 }
 
+/// Both directions in turn, of networks as the meters have them.
+fn directions_and_networks(random: &mut Random) -> Vec<(u64, u64)> {
+    (0..TOGETHER as u64).map(|place| (place % 2, network(random))).collect()
+}
+
 fn registrations(meters: &[Meter]) -> Vec<Single> {
     meters.iter().map(Meter::register).collect()
 }
@@ -98,6 +106,12 @@ pub fn all(meters: usize, random: &mut Random) -> Vec<Operation> {
         single("one new registration at the end", &with_room, registrations(&at_the_end(TOGETHER, random))),
         single("one new registration at the front", &with_room, registrations(&at_the_front(TOGETHER, random))),
         Operation { name: "one allocation", start: full.clone(), work: Work::Allocations, calls: TOGETHER },
+        Operation {
+            name: "one totals call",
+            start: full.clone(),
+            work: Work::Totals(directions_and_networks(random)),
+            calls: TOGETHER,
+        },
         list("a list in order, in one call", Work::List(list_in_order.clone())),
         list("a list shuffled, in one call", Work::List(list_shuffled.clone())),
         list("a half hour in order, in one call", Work::HalfHour(list_in_order)),
@@ -113,15 +127,21 @@ impl Operation {
         let numbers = match &self.work {
             Work::Singles(calls) => vec![u64::MAX; calls.len()],
             Work::Allocations => vec![u64::MAX; TOGETHER],
+            Work::Totals(asked) => vec![u64::MAX; asked.len()],
             Work::List(calls) | Work::HalfHour(calls) => vec![u64::MAX; calls.len() / CALL_WORDS],
         };
-        Outcome { book: self.start.clone(), numbers, volumes: vec![i64::MIN; UNITS], figures: None }
+        let totals = match &self.work {
+            Work::Totals(asked) => vec![u64::MAX; asked.len() * TOTALS_WORDS],
+            _ => Vec::new(),
+        };
+        Outcome { book: self.start.clone(), numbers, volumes: vec![i64::MIN; UNITS], totals, figures: None }
     }
 
     pub fn run(&self, side: &Side, on: &mut Outcome) {
         match &self.work {
             Work::Singles(calls) => singles(side, calls, on),
             Work::Allocations => allocations(side, on),
+            Work::Totals(asked) => all_totals(side, asked, on),
             Work::List(calls) => {
                 let answer = (side.make_calls)(on.book.settings, &mut on.book.rows, calls, &mut on.numbers);
                 on.book.settings = answer.settings;
@@ -161,5 +181,15 @@ fn allocations(side: &Side, on: &mut Outcome) {
         *number = made.answer.number;
         on.book.settings = made.settings;
         on.figures = Some(made.answer);
+    }
+}
+
+/// Each call has a slice of its own, so that the words of every one are there to compare.
+fn all_totals(side: &Side, asked: &[(u64, u64)], on: &mut Outcome) {
+    let slices = on.totals.chunks_exact_mut(TOTALS_WORDS);
+    for ((&(direction, network), totals), number) in asked.iter().zip(slices).zip(&mut on.numbers) {
+        let answer = (side.totals)(on.book.settings, black_box(&on.book.rows), direction, network, totals);
+        *number = answer.number;
+        on.book.settings = answer.settings;
     }
 }

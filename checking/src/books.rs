@@ -2,13 +2,13 @@
 
 use crate::call::Call;
 use crate::check::Case;
+use crate::entry::Entry;
 use crate::model::allocation::Sums;
 use crate::model::ranges::{call_in_range, capacity};
 use crate::model::words::{reading_word, registration_word};
 use crate::model::Book;
-use crate::profile::Profile;
+use crate::profile::{random_number, Profile};
 use crate::random::Random;
-use crate::reach::Entry;
 use cepnhoy::{Reading, Registration};
 
 /// A call for a book with these meters, often at or past the end of a range.
@@ -62,6 +62,8 @@ fn stale_rows(words: usize, random: &mut Random) -> Vec<u64> {
             additional: 0,
             category: random.below(64),
             llf: 1_000,
+            network: random_number(63, random),
+            tariff: random_number(1_023, random),
         };
         let reading = Reading { issue: random.between(1, 4_294_967_295), quality: 0, consumption: 100 };
         rows.extend([mpan, registration_word(&registration), reading_word(&reading)]);

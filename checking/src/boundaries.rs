@@ -72,6 +72,13 @@ pub const BOUNDARIES: &[Boundaries] = &[
         inside: &[500, 2_000],
         outside: &[0, 499, 2_001, MINUS_ONE],
     },
+    Boundaries { argument: Argument::Network, words: "register: network", inside: &[0, 63], outside: &[64, MINUS_ONE] },
+    Boundaries {
+        argument: Argument::Tariff,
+        words: "register: tariff",
+        inside: &[0, 1_023],
+        outside: &[1_024, MINUS_ONE],
+    },
     Boundaries { argument: Argument::ReadingMpan, words: "reading: MPAN", inside: MPAN_INSIDE, outside: MPAN_OUTSIDE },
     Boundaries {
         argument: Argument::Issue,
@@ -121,6 +128,18 @@ pub const BOUNDARIES: &[Boundaries] = &[
         words: "take: Wh",
         inside: &[-5_000_000_000, -1, 0, 1, 5_000_000_000],
         outside: &[i64::MIN as i128, -5_000_000_001, 5_000_000_001, i64::MAX as i128],
+    },
+    Boundaries {
+        argument: Argument::TotalsDirection,
+        words: "totals: direction",
+        inside: &[0, 1],
+        outside: &[2, MINUS_ONE],
+    },
+    Boundaries {
+        argument: Argument::TotalsNetwork,
+        words: "totals: network",
+        inside: &[0, 63],
+        outside: &[64, MINUS_ONE],
     },
 ];
 

@@ -37,7 +37,8 @@ pub enum Call {
     },
 }
 
-/// An argument of a call. The additional unit is two of them, since its range depends on the flag.
+/// An argument of a call that writes a book, or of a totals call. The additional unit is two of them, since its range depends on
+/// the flag.
 #[derive(Clone, Copy, Debug, PartialEq, Eq, PartialOrd, Ord)]
 pub enum Argument {
     RegisterMpan,
@@ -50,6 +51,8 @@ pub enum Argument {
     AdditionalOfNone,
     Category,
     Llf,
+    Network,
+    Tariff,
     ReadingMpan,
     Issue,
     Quality,
@@ -60,9 +63,11 @@ pub enum Argument {
     WeightThousandths,
     Tolerance,
     Take,
+    TotalsDirection,
+    TotalsNetwork,
 }
 
-pub fn registration_arguments(registration: &Registration) -> [(Argument, i128); 8] {
+pub fn registration_arguments(registration: &Registration) -> [(Argument, i128); 10] {
     let additional = match registration.flag {
         0 => Argument::AdditionalOfNone,
         _ => Argument::Additional,
@@ -76,6 +81,8 @@ pub fn registration_arguments(registration: &Registration) -> [(Argument, i128);
         (additional, registration.additional.into()),
         (Argument::Category, registration.category.into()),
         (Argument::Llf, registration.llf.into()),
+        (Argument::Network, registration.network.into()),
+        (Argument::Tariff, registration.tariff.into()),
     ]
 }
 
@@ -135,6 +142,8 @@ impl Call {
                 Argument::Additional | Argument::AdditionalOfNone => &mut registration.additional,
                 Argument::Category => &mut registration.category,
                 Argument::Llf => &mut registration.llf,
+                Argument::Network => &mut registration.network,
+                Argument::Tariff => &mut registration.tariff,
                 _ => panic!("register has no argument {argument:?}"),
             },
             (Call::Reading { mpan, .. }, Argument::ReadingMpan) => mpan,
@@ -150,7 +159,7 @@ impl Call {
         }
     }
 
-    /// The ten words of the call in a list. Words that its kind does not use mean nothing, so they are random.
+    /// The words of the call in a list. Words that its kind does not use mean nothing, so they are random.
     pub fn words(&self, random: &mut Random) -> [u64; CALL_WORDS] {
         let used = match *self {
             Call::Register { mpan, registration: r } => vec![
@@ -164,6 +173,8 @@ impl Call {
                 r.additional,
                 r.category,
                 r.llf,
+                r.network,
+                r.tariff,
             ],
             Call::Reading { mpan, reading: r } => {
                 vec![KIND_READING, mpan, r.issue, r.quality, r.consumption]
@@ -193,11 +204,11 @@ pub fn list_words(calls: &[Call], random: &mut Random) -> Vec<u64> {
 impl fmt::Display for Call {
     fn fmt(&self, f: &mut fmt::Formatter) -> fmt::Result {
         match self {
-            Call::Register { mpan, registration: r } => write!(
-                f,
-                "register mpan={} segment={} direction={} status={} base={} flag={} additional={} category={} llf={}",
-                mpan, r.segment, r.direction, r.status, r.base, r.flag, r.additional, r.category, r.llf
-            ),
+            Call::Register { mpan, registration: r } => {
+                write!(f, "register mpan={mpan} segment={} direction={} status={}", r.segment, r.direction, r.status)?;
+                write!(f, " base={} flag={} additional={}", r.base, r.flag, r.additional)?;
+                write!(f, " category={} llf={} network={} tariff={}", r.category, r.llf, r.network, r.tariff)
+            }
             Call::Reading { mpan, reading: r } => {
                 write!(f, "reading mpan={} issue={} quality={} wh={}", mpan, r.issue, r.quality, r.consumption)
             }

@@ -3,13 +3,16 @@
 use crate::books::random_volume_words;
 use crate::call::{list_words, Call};
 use crate::compare::{at, same, same_allocated, same_settings, same_words, Checked};
+use crate::entry::Entry;
 use crate::lent::{Guarded, Lent};
 use crate::model::allocation::{allocate, Allocation, Contents};
 use crate::model::ranges::capacity;
 use crate::model::{Book, Meaning};
 use crate::observe::{note_allocation, note_call, note_list};
 use crate::random::Random;
-use crate::reach::{Entry, Reach, Situation};
+use crate::reach::Reach;
+use crate::situation::Situation;
+use crate::totals::{check_book_totals, check_totals, random_asked};
 use cepnhoy::CALL_WORDS;
 
 /// A list of calls from a fresh book, with the slices as they are lent first.
@@ -43,7 +46,8 @@ pub fn check_case(case: &Case, reach: &mut Reach) -> Checked {
     check_steps(case, reach)?;
     check_lists(case, &expected, reach)?;
     check_resumed(case, &expected, reach)?;
-    check_misshapen(case, reach)
+    check_misshapen(case, reach)?;
+    check_book_totals(&expected.book, &case.volumes, &mut Random::part(case.seed, 8), reach)
 }
 
 /// Checks a case made as one list only.
@@ -66,6 +70,11 @@ fn check_steps(case: &Case, reach: &mut Reach) -> Checked {
             let volumes = random.signed_words(volume_words);
             let place = || format!("allocation after call {}, {call}", index + 1);
             at(place, check_allocation(&mut lent, Some(&book), &volumes, reach))?;
+        }
+        if random.percent(5) {
+            let asked = random_asked(&book.contents(), random);
+            let place = || format!("{asked} after call {}, {call}", index + 1);
+            at(place, check_totals(&mut lent, Some(&book), &asked, random, reach))?;
         }
     }
     let place = || String::from("allocation after the calls one by one");

@@ -25,7 +25,8 @@ named! {
         StatusThree => "status 3",
         AdditionalWithoutFlag => "additional unit without its bit",
         LlfOutside => "LLF outside its range",
-        RegistrationHighBits => "a bit past 32 of word 1",
+        NetworkOrTariff => "other bits 33 to 48 of word 1",
+        RegistrationHighBits => "a bit past 48 of word 1",
         QualityE7 => "quality 14",
         QualityAbove => "quality 21 to 31",
         ZeWithEnergy => "ZE code with energy",
@@ -42,19 +43,17 @@ named! {
 }
 
 impl DamageKind {
-    /// Whether the book can still be well formed. Of every other kind it is known beforehand that it must not be.
-    pub fn may_be_well_formed(self) -> bool {
-        matches!(
-            self,
+    /// Whether a book damaged so is well formed; none if it may be or not, by the bit or the words that were hit.
+    pub fn leaves_well_formed(self) -> Option<bool> {
+        match self {
             DamageKind::None
-                | DamageKind::SettingsBit
-                | DamageKind::RowBit
-                | DamageKind::BitPastRows
-                | DamageKind::SliceShorter
-                | DamageKind::SliceLonger
-                | DamageKind::MetersOneMore
-                | DamageKind::MetersOneFewer
-        )
+            | DamageKind::BitPastRows
+            | DamageKind::SliceLonger
+            | DamageKind::MetersOneFewer
+            | DamageKind::NetworkOrTariff => Some(true),
+            DamageKind::SettingsBit | DamageKind::RowBit | DamageKind::SliceShorter | DamageKind::MetersOneMore => None,
+            _ => Some(false),
+        }
     }
 }
 
@@ -220,7 +219,11 @@ fn damage_order(kind: DamageKind, rows: &mut [u64], random: &mut Random) -> bool
 
 fn damage_registration(kind: DamageKind, word: &mut u64, random: &mut Random) -> bool {
     if kind == DamageKind::RegistrationHighBits {
-        *word |= 1 << random.between(33, 63);
+        *word |= 1 << random.between(49, 63);
+        return true;
+    }
+    if kind == DamageKind::NetworkOrTariff {
+        *word ^= random.between(1, 0xffff) << 33;
         return true;
     }
     let mut fields: Registration = registration_of(*word);

@@ -1,4 +1,4 @@
-//! The figures that document 01 gives, through the library and through the second method.
+//! The figures that document 01 gives, and totals worked by hand, through the library and through the second method.
 
 use crate::call::Call;
 use crate::check::{check_case, Case, Expected};
@@ -6,6 +6,7 @@ use crate::compare::{at, same, same_allocated, same_words, Checked};
 use crate::lent::Lent;
 use crate::reach::Reach;
 use crate::settle::format;
+use crate::totals::check_figure as check_totals_figure;
 use cepnhoy::{Allocated, Reading, Registration, UNITS};
 
 /// A case: its calls, and what the allocation after them gives.
@@ -36,7 +37,18 @@ fn weights() -> Vec<Call> {
 fn meter(mpan: u64, segment: u64, direction: u64, base: u64, llf: u64) -> Call {
     Call::Register {
         mpan,
-        registration: Registration { segment, direction, status: 2, base, flag: 0, additional: 0, category: 0, llf },
+        registration: Registration {
+            segment,
+            direction,
+            status: 2,
+            base,
+            flag: 0,
+            additional: 0,
+            category: 0,
+            llf,
+            network: 0,
+            tariff: 0,
+        },
     }
 }
 
@@ -128,9 +140,9 @@ take=301
 tolerance=1000
 weight=8,1000
 weight=9,1000
-meter=1200000000002,1,0,2,0,-,0,1000
-meter=1300000000007,1,0,2,1,-,0,1000
-meter=1400000000001,1,0,2,2,-,0,1000
+meter=1200000000002,1,0,2,0,-,0,1000,0,0
+meter=1300000000007,1,0,2,1,-,0,1000,0,0
+meter=1400000000001,1,0,2,2,-,0,1000,0,0
 reading=1200000000002,1,0,100
 reading=1300000000007,1,0,100
 reading=1400000000001,1,0,100
@@ -156,7 +168,8 @@ pub fn check_figures(reach: &mut Reach) -> Result<usize, crate::compare::Failure
         at(|| String::from(figure.name), check_figure(figure, reach))?;
     }
     at(|| String::from("the example of settle"), check_example())?;
-    Ok(figures.len() + 1)
+    at(|| String::from("totals worked by hand"), check_totals_figure(reach))?;
+    Ok(figures.len() + 2)
 }
 
 fn check_figure(figure: &Figure, reach: &mut Reach) -> Checked {

@@ -9,7 +9,9 @@ use crate::model::ranges::METERS_MOST;
 use crate::model::Book;
 use crate::moved::check_moved;
 use crate::random::Random;
-use crate::reach::{Reach, Situation};
+use crate::reach::Reach;
+use crate::situation::Situation;
+use crate::totals::{check_sums, check_totals, random_asked};
 use cepnhoy::{Reading, Registration, CLASSES, ROW_WORDS};
 
 /// How many new rows the library gathers before it merges them (`two_parts::LATER_MAX`).
@@ -35,6 +37,9 @@ fn registration(load: Load, random: &mut Random) -> Registration {
             additional: 0,
             category: random.below(64),
             llf: 2_000,
+            // One total of nearly all energy, which passes 32 bits.
+            network: 63,
+            tariff: if random.percent(99) { 1_023 } else { random.below(1_024) },
         },
         Load::Mixed => Registration {
             segment: random.below(3),
@@ -45,6 +50,9 @@ fn registration(load: Load, random: &mut Random) -> Registration {
             additional: 0,
             category: random.below(64),
             llf: random.between(500, 2_000),
+            // On four networks, so that every tariff of each has meters where there are many.
+            network: *random.pick(&[0, 1, 62, 63]),
+            tariff: random.below(1_024),
         },
     }
 }
@@ -133,5 +141,10 @@ fn check_calls_again(case: &Case, mut book: Book, reach: &mut Reach) -> Checked 
         let number = book.make(call);
         at(|| format!("after the list, {call}"), check_call(&mut lent, call, number, Some(&book)))?;
     }
-    check_allocation(&mut lent, Some(&book), &case.volumes, reach)
+    check_allocation(&mut lent, Some(&book), &case.volumes, reach)?;
+    for _ in 0..8 {
+        let asked = random_asked(&book.contents(), random);
+        at(|| format!("{asked}"), check_totals(&mut lent, Some(&book), &asked, random, reach))?;
+    }
+    check_sums(&mut lent, &book, reach)
 }

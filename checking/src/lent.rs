@@ -86,6 +86,11 @@ impl Lent {
         answer
     }
 
+    pub fn totals(&mut self, direction: u64, network: u64, totals: &mut [u64]) -> u64 {
+        let answer = cepnhoy::totals(self.settings, self.rows.contents(), direction, network, totals);
+        self.keep(answer)
+    }
+
     fn keep(&mut self, answer: Answer) -> u64 {
         self.settings = answer.settings;
         answer.number

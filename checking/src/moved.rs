@@ -8,7 +8,8 @@ use crate::compare::{at, same_allocated, same_settings, same_words, Checked};
 use crate::model::ranges::{call_in_range, capacity};
 use crate::model::Meaning;
 use crate::random::Random;
-use crate::reach::{Reach, Situation};
+use crate::reach::Reach;
+use crate::situation::Situation;
 use cepnhoy::AllocationAnswer;
 
 /// Where the first in-range registration of each meter stands.

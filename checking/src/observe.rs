@@ -6,12 +6,13 @@ use crate::model::allocation::{
 };
 use crate::model::book::shape_held;
 use crate::model::Book;
-use crate::reach::{Reach, Situation};
+use crate::reach::Reach;
+use crate::situation::Situation;
 use cepnhoy::{Reading, Registration, UNITS};
 
 /// Notes a call on a well-formed book, given the book before it.
 pub fn note_call(reach: &mut Reach, before: &Book, call: &Call, number: u64) {
-    reach.note_boundaries(call);
+    reach.note_boundaries(&call.arguments());
     reach.note_causes(&before.causes(call));
     match *call {
         Call::Register { mpan, registration } => {

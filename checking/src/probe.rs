@@ -1,18 +1,21 @@
-//! Single calls on damaged books: number, settings, rows and volumes, all words of them.
+//! Single calls on damaged books: number, settings, rows, volumes and totals, all words of them.
 
 use crate::books::random_call_on;
 use crate::call::Call;
 use crate::check::{check_allocation, check_call, check_listed};
 use crate::compare::{at, settings_in_words, Checked, Failure};
 use crate::damage::{Damage, DamageKind};
+use crate::entry::Entry;
 use crate::lent::Lent;
+use crate::model::totals::totals_causes;
 use crate::model::Book;
 use crate::observe::{note_call, note_call_on_ill_formed};
 use crate::random::Random;
-use crate::reach::{Entry, Reach};
+use crate::reach::Reach;
+use crate::totals::{check_totals, random_asked};
 use cepnhoy::{ROW_WORDS, UNITS};
 
-/// Damages a book that calls reached, if it has something that can be damaged so, and makes each of the seven calls on it, and a
+/// Damages a book that calls reached, if it has something that can be damaged so, and makes each of the eight calls on it, and a
 /// short list of calls.
 pub fn check_damaged(book: &Book, damage: &Damage, reach: &mut Reach) -> Checked {
     let mut settings = book.settings();
@@ -23,13 +26,14 @@ pub fn check_damaged(book: &Book, damage: &Damage, reach: &mut Reach) -> Checked
     let lent = Lent::new(settings, &rows);
     let damaged = Book::read(&settings, &rows);
     reach.note_damage(damage.kind, damaged.is_none());
-    if damaged.is_some() && !damage.kind.may_be_well_formed() {
-        return Err(Failure(format!("{}: the model takes the book for well formed", damage.kind.words())));
+    if damage.kind.leaves_well_formed().is_some_and(|well_formed| well_formed != damaged.is_some()) {
+        let taken_for = if damaged.is_some() { "well formed" } else { "ill formed" };
+        return Err(Failure(format!("{}: the model takes the book for {taken_for}", damage.kind.words())));
     }
     if damage.kind == DamageKind::TakeFlagOutside {
         reach.note_take_flag(&settings);
     }
-    let probes = Probes { lent, book: damaged, mpans: book.mpans() };
+    let probes = Probes { lent, book: damaged, undamaged: book };
     let place = || {
         let used = ROW_WORDS * book.mpans().len();
         format!(
@@ -48,21 +52,23 @@ const WRITING: [Entry; 6] =
     [Entry::Register, Entry::Reading, Entry::Shape, Entry::Weight, Entry::Tolerance, Entry::Take];
 
 /// Calls on one book, each on a copy of its own.
-struct Probes {
+struct Probes<'a> {
     lent: Lent,
     book: Option<Book>,
-    mpans: Vec<u64>,
+    undamaged: &'a Book,
 }
 
-impl Probes {
+impl Probes<'_> {
     fn check(&self, seed: u64, reach: &mut Reach) -> Checked {
         let random = &mut Random::part(seed, 1);
+        let mpans = self.undamaged.mpans();
         for entry in WRITING {
-            let call = random_call_on(&self.mpans, entry, random);
+            let call = random_call_on(&mpans, entry, random);
             at(|| format!("{call}"), self.check_call(entry, &call, reach))?;
         }
         self.check_allocation(random, reach)?;
-        self.check_list(random, reach)
+        self.check_totals(random, reach)?;
+        self.check_list(&mpans, random, reach)
     }
 
     fn check_call(&self, entry: Entry, call: &Call, reach: &mut Reach) -> Checked {
@@ -95,10 +101,23 @@ impl Probes {
         )
     }
 
-    fn check_list(&self, random: &mut Random, reach: &mut Reach) -> Checked {
+    fn check_totals(&self, random: &mut Random, reach: &mut Reach) -> Checked {
+        let contents = self.book.as_ref().unwrap_or(self.undamaged).contents();
+        let asked = random_asked(&contents, random);
+        reach.damaged_calls += 1;
+        if self.book.is_none() {
+            // As if the other causes stood as before the damage.
+            let mut causes = totals_causes(&contents, &asked);
+            causes.push(1);
+            reach.totals.note_causes(&causes);
+        }
+        let outcome = check_totals(&mut self.lent.clone(), self.book.as_ref(), &asked, random, reach);
+        at(|| format!("{asked}"), outcome)
+    }
+
+    fn check_list(&self, mpans: &[u64], random: &mut Random, reach: &mut Reach) -> Checked {
         let count = random.index(4);
-        let mut calls: Vec<Call> =
-            (0..count).map(|_| random_call_on(&self.mpans, *random.pick(&WRITING), random)).collect();
+        let mut calls: Vec<Call> = (0..count).map(|_| random_call_on(mpans, *random.pick(&WRITING), random)).collect();
         if random.percent(20) {
             calls.push(Call::Unknown { kind: 0 });
         }

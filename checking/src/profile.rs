@@ -2,9 +2,9 @@
 
 use crate::boundaries::boundaries;
 use crate::call::{Argument, Call};
+use crate::entry::Entry;
 use crate::model::ranges::in_range;
 use crate::random::Random;
-use crate::reach::Entry;
 use cepnhoy::{Reading, Registration, CLASSES};
 
 /// How the energies of a book's readings and shapes are spread.
@@ -90,6 +90,9 @@ pub struct Profile {
     pub mpans: Vec<u64>,
     units: Vec<u64>,
     categories: Vec<u64>,
+    /// Few, so that several meters are of one network and of one tariff.
+    networks: Vec<u64>,
+    tariffs: Vec<u64>,
     weights: Weights,
     energies: Energies,
     /// All meters registered alike but for their unit, and read alike, as in document 01's case 1.
@@ -110,6 +113,8 @@ impl Profile {
             mpans,
             units,
             categories: (0..category_count).map(|_| random.below(64)).collect(),
+            networks: random_numbers(63, random),
+            tariffs: random_numbers(1_023, random),
             weights: Weights::random(random),
             energies: Energies::random(random),
             alike: None,
@@ -147,6 +152,8 @@ impl Profile {
             additional: flag * *random.pick(&[other_unit, other_unit, 0]),
             category: *random.pick(&self.categories),
             llf: random_llf(random),
+            network: *random.pick(&self.networks),
+            tariff: *random.pick(&self.tariffs),
         }
     }
 
@@ -230,6 +237,17 @@ impl Profile {
     }
 }
 
+/// One to four numbers of networks or of tariffs, often the least or the most.
+fn random_numbers(most: u64, random: &mut Random) -> Vec<u64> {
+    (0..1 + random.index(4)).map(|_| random_number(most, random)).collect()
+}
+
+/// A number of a network or of a tariff, often the least or the most.
+pub fn random_number(most: u64, random: &mut Random) -> u64 {
+    let any = random.between(0, most);
+    *random.pick(&[0, most, any, any])
+}
+
 /// Round numbers, where losses come to exact halves, the ends of the range, and any.
 fn random_llf(random: &mut Random) -> u64 {
     let any = random.between(500, 2_000);
@@ -264,7 +282,7 @@ fn spoiled(call: Call, random: &mut Random) -> Call {
 }
 
 /// A value just outside a range, or one that would come back into it if its upper bits were cut off.
-fn value_outside(argument: Argument, value: i128, random: &mut Random) -> i128 {
+pub fn value_outside(argument: Argument, value: i128, random: &mut Random) -> i128 {
     let cut_to_it = value + (1 << *random.pick(&[8, 16, 32, 48, 62]));
     if random.percent(25) && !in_range(argument, cut_to_it) && cut_to_it < 1 << 63 {
         return cut_to_it;

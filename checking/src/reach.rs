@@ -3,135 +3,17 @@
 use std::fmt::Write;
 
 use crate::boundaries::{boundaries, Boundaries, BOUNDARIES, TAKE_FLAGS_OUTSIDE};
-use crate::call::Call;
+use crate::call::Argument;
 use crate::damage::DamageKind;
+use crate::entry::Entry;
 use crate::model::ranges::in_range;
-use crate::named::named;
+use crate::situation::Situation;
+use crate::totals::TotalsReach;
 use cepnhoy::Settings;
-
-named! {
-    /// What gives a number: the entry points, and the calls inside a list.
-    Entry {
-        Register => "register",
-        Reading => "reading",
-        Shape => "shape",
-        Weight => "weight",
-        Tolerance => "tolerance",
-        Take => "take",
-        Allocate => "allocate",
-        MakeCalls => "make_calls",
-        SettleList => "settle_list",
-        ListedRegister => "in a list: register",
-        ListedReading => "in a list: reading",
-        ListedShape => "in a list: shape",
-        ListedWeight => "in a list: weight",
-        ListedTolerance => "in a list: tolerance",
-        ListedTake => "in a list: take",
-        ListedUnknown => "in a list: unknown kind",
-    }
-}
-
-impl Entry {
-    /// The entry point of a call; a kind that no call has, has none.
-    pub fn single(call: &Call) -> Option<Entry> {
-        match call {
-            Call::Register { .. } => Some(Entry::Register),
-            Call::Reading { .. } => Some(Entry::Reading),
-            Call::Shape { .. } => Some(Entry::Shape),
-            Call::Weight { .. } => Some(Entry::Weight),
-            Call::Tolerance { .. } => Some(Entry::Tolerance),
-            Call::Take { .. } => Some(Entry::Take),
-            Call::Unknown { .. } => None,
-        }
-    }
-
-    pub fn listed(call: &Call) -> Entry {
-        match call {
-            Call::Register { .. } => Entry::ListedRegister,
-            Call::Reading { .. } => Entry::ListedReading,
-            Call::Shape { .. } => Entry::ListedShape,
-            Call::Weight { .. } => Entry::ListedWeight,
-            Call::Tolerance { .. } => Entry::ListedTolerance,
-            Call::Take { .. } => Entry::ListedTake,
-            Call::Unknown { .. } => Entry::ListedUnknown,
-        }
-    }
-
-    /// The numbers that it can give. A list is refused only for its shape; settling starts from a fresh book, which is well formed.
-    fn reachable(self) -> &'static [u64] {
-        match self {
-            Entry::Register | Entry::ListedRegister => &[0, 1, 2, 6],
-            Entry::Reading | Entry::ListedReading => &[0, 1, 2, 3, 4, 5],
-            Entry::Allocate => &[0, 1, 7, 8, 9, 10, 11],
-            Entry::MakeCalls => &[0, 19],
-            Entry::SettleList => &[0, 7, 8, 9, 10, 11, 19],
-            Entry::ListedUnknown => &[1, 2],
-            _ => &[0, 1, 2],
-        }
-    }
-}
-
-named! {
-    /// What the random books must have met, apart from numbers and boundaries.
-    Situation {
-        IssueBelowHeld => "reading one issue below the one held",
-        IssueEqualHeld => "reading of the issue held, with other contents",
-        IssueAboveHeld => "reading one issue above the one held",
-        ZeroReadingHeld => "a reading of 0 Wh, code 0, is the one in force",
-        ZeWithoutEnergy => "ZE code with 0 Wh accepted",
-        ZeWithEnergy => "ZE code with 1 Wh refused",
-        EstimateWithEnergy => "code 16 with Wh accepted",
-        EarlyReadingThenRegistered => "reading before its meter's registration, which came later",
-        KnownMeterInFullBook => "known meter registered again in a full book",
-        RefusedForRoomThenRead => "reading for a meter that met a full book",
-        ShapeBackToMissing => "shape set back to missing",
-        AdditionalUnitUsed => "additional unit other than the base unit",
-        AdditionalUnitZero => "additional unit 0 beside another base unit",
-        RowSliceEmpty => "row slice of 0 words",
-        RowSliceOneOver => "row slice of 3k + 1 words, full",
-        RowSliceTwoOver => "row slice of 3k + 2 words, full",
-        CapacityJustBelowMost => "row slice of 196,607 words: full at 65,535 meters",
-        CapacityMost => "row slice of 196,608 words: full at 65,536 meters",
-        SlicePastCapacity => "longer row slice: full at 65,536 meters",
-        VolumeWords0 => "volume slice of 0 words",
-        VolumeWords31 => "volume slice of 31 words",
-        VolumeWords32 => "volume slice of 32 words",
-        VolumeWords33 => "volume slice of 33 words",
-        VolumeWords40 => "volume slice of 40 words",
-        DefaultExported => "defaulted export meter",
-        DeEnergisedActual => "de-energised, code 0 to 6, used",
-        DeEnergisedE2 => "de-energised, E2, used",
-        DeEnergisedE6 => "de-energised, E6, used",
-        DeEnergisedOther => "de-energised, other code, idle",
-        DisconnectedRead => "disconnected with a reading, idle",
-        LossNegative => "loss cell below 0",
-        LossHalfAbove => "loss cell at an exact half above 0",
-        LossHalfBelow => "loss cell at an exact half below 0",
-        LossRoundedOnce => "loss cell that rounding meter by meter would change",
-        WeightedBelowZero => "W below 0 refused",
-        WeightedZero => "W = 0 refused, meters in use",
-        WeightedOne => "W = 1 accepted",
-        ToleranceMet => "U at the tolerance exactly, not 0, accepted",
-        TolerancePassed => "U one Wh past the tolerance, refused",
-        TakeZero => "Take 0 accepted",
-        TakeNegative => "Take below 0 accepted",
-        ShareNegative => "share below 0 with a fraction",
-        UnitWeightedNegative => "unit with a below 0 in an accepted allocation",
-        LackingSome => "Wh lacking after rounding down",
-        LackingMany => "8 Wh or more lacking after rounding down",
-        TieAtTheCut => "equal fractions, some served and some not",
-        ProductPast64Bits => "U × a past 64 bits, accepted",
-        ProductPast27Digits => "U × a past 10^27, accepted",
-        ListResumed => "a list made on a book that calls had reached",
-        NumbersShort => "numbers slice one word short",
-        CallsBroken => "calls slice not a whole number of calls",
-        MovedAccepted => "list with moved readings, accepted",
-    }
-}
 
 const NUMBERS: usize = 20;
 
-/// Causes that can apply together: only then does it show which is looked at first.
+/// Causes that can apply together: only then does it show which is looked at first. Those of totals calls stand apart.
 const TOGETHER: &[(u64, u64)] =
     &[(1, 2), (1, 3), (1, 7), (2, 3), (2, 4), (2, 5), (2, 6), (3, 4), (3, 5), (7, 8), (7, 9), (8, 9), (8, 10), (9, 10)];
 
@@ -143,6 +25,7 @@ pub struct Reach {
     situations: Vec<u64>,
     damages: Vec<[u64; 2]>,
     together: Vec<u64>,
+    pub totals: TotalsReach,
     pub damaged_calls: u64,
 }
 
@@ -156,6 +39,7 @@ impl Default for Reach {
             situations: vec![0; Situation::ALL.len()],
             damages: vec![[0; 2]; DamageKind::ALL.len()],
             together: vec![0; TOGETHER.len()],
+            totals: TotalsReach::default(),
             damaged_calls: 0,
         }
     }
@@ -188,13 +72,12 @@ impl Reach {
         }
     }
 
-    /// Notes the boundary values of a call on a well-formed book. One outside its range counts only if it is the only such
+    /// Notes the boundary values of a call's arguments, on a well-formed book. One outside its range counts only if it is the only such
     /// argument, and one inside only if there is none: elsewhere it would not have decided the number.
-    pub fn note_boundaries(&mut self, call: &Call) {
-        let arguments = call.arguments();
+    pub fn note_boundaries(&mut self, arguments: &[(Argument, i128)]) {
         let outside = arguments.iter().filter(|(a, value)| !in_range(*a, *value));
         let outside_count = outside.count();
-        for (argument, value) in arguments {
+        for &(argument, value) in arguments {
             let values = boundaries(argument);
             let decides = usize::from(!in_range(argument, value)) == outside_count;
             let all = values.inside.iter().chain(values.outside);
@@ -238,6 +121,7 @@ impl Reach {
                 missing.push(format!("damage: {}", kind.words()));
             }
         }
+        missing.extend(self.totals.missing());
         missing
     }
 
@@ -264,11 +148,12 @@ impl Reach {
         self.write_boundaries(&mut table);
         self.write_situations(&mut table);
         self.write_damages(&mut table);
+        self.totals.write(&mut table);
         table
     }
 
     fn write_numbers(&self, table: &mut String) {
-        let columns = [0, 1, 2, 3, 4, 5, 6, 7, 8, 9, 10, 11, 19];
+        let columns = [0, 1, 2, 3, 4, 5, 6, 7, 8, 9, 10, 11, 12, 19];
         let _ = write!(table, "How often each number was given\n{:24}", "");
         for number in columns {
             let _ = write!(table, " {number:>8}");

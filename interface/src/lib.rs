@@ -3,19 +3,22 @@
 //! `.ci/interface` compares these declarations with the Rattle source and with the header for C: names, sizes, places, values,
 //! arguments and results. What a call does, and what each number stands for, is told in the header, `include/cepnhoy.h`.
 
-/// How many weights, load shapes and units there are, and meters at most; how many words a row and a call in a list take.
+/// How many weights, load shapes, units and tariffs there are, and meters at most; how many words a row, a call in a list and the
+/// totals of all tariffs take.
 pub const CLASSES: usize = 24;
 pub const CATEGORIES: usize = 64;
 pub const UNITS: usize = 32;
+pub const TARIFFS: usize = 1_024;
 pub const METERS_MAX: usize = 65_536;
 pub const ROW_WORDS: usize = 3;
-pub const CALL_WORDS: usize = 10;
+pub const CALL_WORDS: usize = 12;
+pub const TOTALS_WORDS: usize = 4_096;
 
 /// The flag of the Take in the settings. With any other number there a book isn't well formed.
 pub const TAKE_FLAG_UNSET: u32 = 0;
 pub const TAKE_FLAG_SET: u32 = 1;
 
-/// The kinds of call in a list, first of a call's ten words.
+/// The kinds of call in a list, first of a call's words.
 pub const KIND_REGISTER: u64 = 1;
 pub const KIND_READING: u64 = 2;
 pub const KIND_SHAPE: u64 = 3;
@@ -36,6 +39,7 @@ pub const TAKE_UNSET: u64 = 8;
 pub const SHAPE_OF_DEFAULT_MISSING: u64 = 9;
 pub const WEIGHTED_BELOW_ONE: u64 = 10;
 pub const TOLERANCE_EXCEEDED: u64 = 11;
+pub const TOTALS_SHORT: u64 = 12;
 pub const LIST_MISSHAPEN: u64 = 19;
 
 /// The ranges of a meter's MPAN and registration.
@@ -48,6 +52,8 @@ pub const UNIT_MAX: u64 = 31;
 pub const CATEGORY_MAX: u64 = 63;
 pub const LLF_MIN: u64 = 500;
 pub const LLF_MAX: u64 = 2_000;
+pub const NETWORK_MAX: u64 = 63;
+pub const TARIFF_MAX: u64 = 1_023;
 
 /// The ranges of a reading, some quality codes, and the word of a meter that has no reading.
 pub const ISSUE_MIN: u64 = 1;
@@ -92,6 +98,8 @@ pub struct Registration {
     pub additional: u64,
     pub category: u64,
     pub llf: u64,
+    pub network: u64,
+    pub tariff: u64,
 }
 
 #[repr(C)]
@@ -163,6 +171,15 @@ extern "C" {
         volumes: *mut i64,
         volumes_length: usize,
     ) -> AllocationAnswer;
+    fn cepnhoy_totals(
+        settings: Settings,
+        rows: *const u64,
+        rows_length: usize,
+        direction: u64,
+        network: u64,
+        totals: *mut u64,
+        totals_length: usize,
+    ) -> Answer;
     fn cepnhoy_make_calls(
         settings: Settings,
         rows: *mut u64,
@@ -217,6 +234,12 @@ pub fn set_take(settings: Settings, rows: &[u64], wh: i64) -> Answer {
 
 pub fn allocate(settings: Settings, rows: &[u64], volumes: &mut [i64]) -> AllocationAnswer {
     unsafe { cepnhoy_allocate(settings, rows.as_ptr(), rows.len(), volumes.as_mut_ptr(), volumes.len()) }
+}
+
+pub fn totals(settings: Settings, rows: &[u64], direction: u64, network: u64, totals: &mut [u64]) -> Answer {
+    unsafe {
+        cepnhoy_totals(settings, rows.as_ptr(), rows.len(), direction, network, totals.as_mut_ptr(), totals.len())
+    }
 }
 
 pub fn make_calls(settings: Settings, rows: &mut [u64], calls: &[u64], numbers: &mut [u64]) -> Answer {

@@ -1,16 +1,17 @@
 //! An allocation: one pass over the rows, then the units.
 
 use super::rows::{is_formed, used, Row};
+use super::words::llf;
 use super::{
     ACCEPTED, BOOK_ILL_FORMED, SHAPE_MISSING, TAKE_UNSET, TOLERANCE_EXCEEDED, VOLUMES_SHORT, WEIGHTED_BELOW_ONE,
 };
 use cepnhoy::{Allocated, AllocationAnswer, Settings, CATEGORIES, CLASSES, TAKE_FLAG_SET, UNITS};
 
 /// Where a meter's energy comes from, as the four counts are numbered.
-const ACTUAL: usize = 0;
-const ESTIMATED: usize = 1;
-const DEFAULTED: usize = 2;
-const IDLE: usize = 3;
+pub const ACTUAL: usize = 0;
+pub const ESTIMATED: usize = 1;
+pub const DEFAULTED: usize = 2;
+pub const IDLE: usize = 3;
 
 /// Codes that a de-energised meter uses: 0 to 6, E2 (9) and E6 (13).
 const USED_DE_ENERGISED: u32 = 0x7f | 1 << 9 | 1 << 13;
@@ -32,7 +33,7 @@ pub fn allocate(settings: Settings, rows: &[u64], volumes: &mut [i64]) -> Alloca
     AllocationAnswer { answer, settings }
 }
 
-fn source(registration: u64, reading: u64) -> usize {
+pub fn source(registration: u64, reading: u64) -> usize {
     let quality = reading >> 24 & 31;
     let by_reading = if quality <= 6 { ACTUAL } else { ESTIMATED };
     match registration >> 3 & 3 {
@@ -62,7 +63,7 @@ fn gather(rows: &[Row], shapes: &[u32; CATEGORIES]) -> Gathered {
         let class = 8 * (registration & 3) + (registration & 4) + 2 * estimate;
         let cells = &mut gathered.cells[unit as usize];
         cells[class as usize] += wh;
-        cells[class as usize + 1] += ((registration >> 22) as i64 - 1_000) * wh;
+        cells[class as usize + 1] += (llf(registration) as i64 - 1_000) * wh;
     }
     gathered
 }

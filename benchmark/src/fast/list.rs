@@ -114,8 +114,8 @@ fn set(settings: &mut Settings, call: &CallWords) -> u64 {
 }
 
 fn registration(call: &CallWords) -> Registration {
-    let [_, _, segment, direction, status, base, flag, additional, category, llf] = *call;
-    Registration { segment, direction, status, base, flag, additional, category, llf }
+    let [_, _, segment, direction, status, base, flag, additional, category, llf, network, tariff] = *call;
+    Registration { segment, direction, status, base, flag, additional, category, llf, network, tariff }
 }
 
 fn make_each(settings: &mut Settings, rows: &mut [u64], calls: &[CallWords], numbers: &mut [u64]) {

@@ -5,11 +5,13 @@ mod allocation;
 mod book;
 mod list;
 mod rows;
+mod totals;
 mod words;
 
 pub use allocation::allocate;
 pub use book::{record_reading, register};
 pub use list::{make_calls, settle_list};
+pub use totals::totals;
 
 pub const ACCEPTED: u64 = 0;
 pub const BOOK_ILL_FORMED: u64 = 1;
@@ -23,4 +25,5 @@ pub const TAKE_UNSET: u64 = 8;
 pub const SHAPE_MISSING: u64 = 9;
 pub const WEIGHTED_BELOW_ONE: u64 = 10;
 pub const TOLERANCE_EXCEEDED: u64 = 11;
+pub const TOTALS_SHORT: u64 = 12;
 pub const LIST_MISSHAPEN: u64 = 19;

@@ -6,6 +6,8 @@ pub const MPAN_LEAST: u64 = 1_000_000_000_000;
 pub const MPAN_MOST: u64 = 9_999_999_999_999;
 const LLF_LEAST: u64 = 500;
 const LLF_MOST: u64 = 2_000;
+pub const NETWORK_MOST: u64 = 63;
+const TARIFF_MOST: u64 = 1_023;
 const CONSUMPTION_MOST: u64 = 10_000_000;
 
 /// One more than the most Wh that a reading may have, by bits 24 to 31 of its word: a quality with its three zero bits above it.
@@ -28,12 +30,21 @@ pub fn is_mpan(mpan: u64) -> bool {
     mpan.wrapping_sub(MPAN_LEAST) <= MPAN_MOST - MPAN_LEAST
 }
 
-/// Segment and status are below 3, there is an additional unit or its bits are 0, and the loss factor and all above it in range.
+#[inline(always)]
+pub fn llf(word: u64) -> u64 {
+    word >> 22 & 0x7ff
+}
+
+/// Segment and status are below 3, there is an additional unit or its bits are 0, the loss factor is in range, and nothing stands
+/// above the tariff.
 #[inline(always)]
 pub fn is_registration(word: u64) -> bool {
     let threes = word & (word >> 1) & 0b1001;
-    let llf = (word >> 22).wrapping_sub(LLF_LEAST);
-    threes == 0 && ((word >> 10 & 1 == 1) | (word >> 11 & 31 == 0)) && llf <= LLF_MOST - LLF_LEAST
+    let above_least = llf(word).wrapping_sub(LLF_LEAST);
+    threes == 0
+        && ((word >> 10 & 1 == 1) | (word >> 11 & 31 == 0))
+        && above_least <= LLF_MOST - LLF_LEAST
+        && word >> 49 == 0
 }
 
 #[inline(always)]
@@ -52,6 +63,8 @@ pub fn in_range(r: &Registration) -> bool {
         && r.additional <= 31 * r.flag
         && r.category <= 63
         && (LLF_LEAST..=LLF_MOST).contains(&r.llf)
+        && r.network <= NETWORK_MOST
+        && r.tariff <= TARIFF_MOST
 }
 
 pub fn registration_word(r: &Registration) -> u64 {
@@ -63,6 +76,8 @@ pub fn registration_word(r: &Registration) -> u64 {
         | r.additional << 11
         | r.category << 16
         | r.llf << 22
+        | r.network << 33
+        | r.tariff << 39
 }
 
 pub fn reading_in_range(r: &Reading) -> bool {

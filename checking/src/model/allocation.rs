@@ -60,11 +60,11 @@ pub fn unit_of(registration: &Registration) -> usize {
 /// Only the cells that something was put into, by unit and class, in thousandths of a Wh, consumption and losses alike.
 pub type Cells = BTreeMap<(usize, usize), i128>;
 
-fn is_loss(class: usize) -> bool {
+pub fn is_loss(class: usize) -> bool {
     class % 2 == 1
 }
 
-fn is_export(class: usize) -> bool {
+pub fn is_export(class: usize) -> bool {
     class / 4 % 2 == 1
 }
 

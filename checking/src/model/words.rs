@@ -5,17 +5,17 @@ use crate::call::{reading_arguments, registration_arguments};
 use crate::model::ranges::{all_in_range, quality_refused};
 use cepnhoy::{Reading, Registration};
 
-/// Of word 1: segment, direction, status, base, flag, additional, category; the LLF takes the rest.
-const REGISTRATION_BASES: [u64; 7] = [4, 2, 4, 32, 2, 32, 64];
+/// Of word 1: segment, direction, status, base, flag, additional, category, LLF, network; the tariff takes the rest.
+const REGISTRATION_BASES: [u64; 9] = [4, 2, 4, 32, 2, 32, 64, 2_048, 64];
 
 /// Of word 2: consumption, then quality with the three bits above it, which no code reaches; the issue takes the rest.
 const CONSUMPTION_BASE: u64 = 16_777_216;
 const QUALITY_BASE: u64 = 256;
 
 pub fn registration_word(r: &Registration) -> u64 {
-    let digits = [r.segment, r.direction, r.status, r.base, r.flag, r.additional, r.category];
+    let digits = [r.segment, r.direction, r.status, r.base, r.flag, r.additional, r.category, r.llf, r.network];
     let lowest_last = digits.iter().zip(REGISTRATION_BASES).rev();
-    lowest_last.fold(r.llf, |above, (digit, base)| above * base + digit)
+    lowest_last.fold(r.tariff, |above, (digit, base)| above * base + digit)
 }
 
 pub fn registration_of(word: u64) -> Registration {
@@ -25,8 +25,8 @@ pub fn registration_of(word: u64) -> Registration {
         rest /= base;
         digit
     });
-    let [segment, direction, status, base, flag, additional, category] = digits;
-    Registration { segment, direction, status, base, flag, additional, category, llf: rest }
+    let [segment, direction, status, base, flag, additional, category, llf, network] = digits;
+    Registration { segment, direction, status, base, flag, additional, category, llf, network, tariff: rest }
 }
 
 pub fn reading_word(r: &Reading) -> u64 {

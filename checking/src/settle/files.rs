@@ -28,6 +28,9 @@ named! {
         FieldMissing => "a field missing",
         FieldMore => "a field more",
         FieldEmpty => "an empty field",
+        MeterEightFields => "a meter line of eight fields",
+        MeterNineFields => "a meter line of nine fields",
+        MeterElevenFields => "a meter line of eleven fields",
         LeadingZero => "a leading zero",
         EighteenDigits => "a number of 18 digits, in form",
         NineteenDigits => "a number of 19 digits",
@@ -86,7 +89,7 @@ fn line_of(call: &Call) -> String {
             format!(
                 "meter={},{additional},{}",
                 joined(&[mpan, r.segment, r.direction, r.status, r.base]),
-                joined(&[r.category, r.llf])
+                joined(&[r.category, r.llf, r.network, r.tariff])
             )
         }
         Call::Reading { mpan, reading: r } => {
@@ -125,6 +128,9 @@ fn damage_file(file: &mut PeriodFile, damage: FileDamage, random: &mut Random) {
         FileDamage::EightyBytes => file.lines.push(long_reading(80)),
         FileDamage::EightyOneBytes => file.lines.push(long_reading(81)),
         FileDamage::EmptyLastLine => file.lines.push(Vec::new()),
+        FileDamage::MeterEightFields => insert_meter(&mut file.lines, 8),
+        FileDamage::MeterNineFields => insert_meter(&mut file.lines, 9),
+        FileDamage::MeterElevenFields => insert_meter(&mut file.lines, 11),
         FileDamage::ByteChanged | FileDamage::ByteDropped | FileDamage::CutShort => {
             damage_bytes(file, damage, random);
         }
@@ -133,6 +139,13 @@ fn damage_file(file: &mut PeriodFile, damage: FileDamage, random: &mut Random) {
             damage_lines(&mut file.lines, place, damage, random);
         }
     }
+}
+
+/// Puts in a meter line of so many fields, where the first reading stands, so that nothing but their number is out of form.
+fn insert_meter(lines: &mut Vec<Vec<u8>>, fields: usize) {
+    let all = ["1200000000002", "1", "0", "2", "0", "-", "0", "1000", "63", "1023", "0"];
+    let place = lines.iter().position(|line| line.starts_with(b"reading=")).unwrap_or(lines.len());
+    lines.insert(place, format!("meter={}", all[..fields].join(",")).into_bytes());
 }
 
 /// A reading line of so many bytes, each number of at most 18 digits.

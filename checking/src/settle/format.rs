@@ -50,8 +50,9 @@ fn meter(fields: &[&str]) -> Option<Call> {
         unit => (1, number(unit)?),
     };
     let [mpan, segment, direction, status, base] = numbers(&fields[..5])?;
-    let [category, llf] = numbers(&fields[6..])?;
-    let registration = Registration { segment, direction, status, base, flag, additional, category, llf };
+    let [category, llf, network, tariff] = numbers(&fields[6..])?;
+    let registration =
+        Registration { segment, direction, status, base, flag, additional, category, llf, network, tariff };
     Some(Call::Register { mpan, registration })
 }
 
@@ -172,12 +173,12 @@ mod tests {
         "tolerance=1000",
         "weight=24,1001",
         "shape=63,4294967295",
-        "meter=1200000000002,1,0,2,0,-,0,1000",
-        "meter=1200000000002,1,0,2,0,0,0,1000",
+        "meter=1200000000002,1,0,2,0,-,0,1000,0,0",
+        "meter=1200000000002,1,0,2,0,0,0,1000,64,1024",
         "reading=1200000000002,1,0,100",
     ];
 
-    const OUT_OF_FORM: [&str; 22] = [
+    const OUT_OF_FORM: [&str; 26] = [
         "",
         "=",
         "take",
@@ -197,8 +198,12 @@ mod tests {
         "weight=8,1000,1",
         "weight=8,,1000",
         "shape=63,-",
-        "meter=1200000000002,1,0,2,0,-,0",
-        "meter=1200000000002,1,0,2,-,-,0,1000",
+        "meter=1200000000002,1,0,2,0",
+        "meter=1200000000002,1,0,2,0,-,0,1000",
+        "meter=1200000000002,1,0,2,0,-,0,1000,0",
+        "meter=1200000000002,1,0,2,0,-,0,1000,0,0,0",
+        "meter=1200000000002,1,0,2,-,-,0,1000,0,0",
+        "meter=1200000000002,1,0,2,0,-,0,1000,-,0",
         "volume=0,1",
     ];
 
