@@ -3,6 +3,7 @@
 pub mod Each
 pub mod Permuted
 pub mod Entries
+pub mod MissingShape
 pub mod Counting
 -- from meters to cells
 pub mod Tables

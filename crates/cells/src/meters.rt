@@ -5,7 +5,7 @@ ghost use mathlib.Core.Path.{_≡_};
 ghost use Prim.Native.Nat.{_≤_};
 ghost use lib.ListN.{length};
 ghost use Rattle.book.specs.Limits.{categories};
-ghost use Rattle.cells.specs.Energy.{readingSource, usedDeEnergised, sourceOf};
+ghost use Rattle.cells.specs.Energy.{readingSource, usedDeEnergised, sourceOf, lacksShape};
 ghost use Rattle.cells.specs.Cells.{classOf};
 ghost use Rattle.cells.specs.Helpers.{sourceNumber, useOf};
 
@@ -58,6 +58,22 @@ pub fn source(registration: u64, reading: u64) -> u64
         }
     }
     IDLE
+}
+
+// Whether a meter is defaulted and its shape is missing: what `use_of` tells of it, for a caller that asks nothing else. Nearly every
+// meter has a reading, so that is looked at first.
+pub fn lacks_shape(shapes: &[u32; 64], registration: u64, reading: u64) -> bool
+    requires { ⌜ length (now shapes) ≡ categories ⌝ }
+    ensures { λ r. ⌜ r ≡ lacksShape (now (shapes .entry)) registration reading ⌝ }
+{
+    if reading != words::NO_READING {
+        return false;
+    }
+    if words::status(registration) != ENERGISED {
+        return false;
+    }
+    let category = words::category(registration) as usize;
+    wide(shapes[category]) == book::Settings::SHAPE_MISSING
 }
 
 // What a meter comes to under these shapes.

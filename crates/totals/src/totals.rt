@@ -6,6 +6,7 @@ use cells::Use;
 use cells::meters::ACTUAL;
 use cells::meters::ENERGISED;
 use cells::meters::IDLE;
+use cells::meters::lacks_shape;
 use cells::meters::use_of;
 use refusals::ACCEPTED;
 use refusals::ARGUMENT_OUT_OF_RANGE;
@@ -44,8 +45,8 @@ fn any_lacks(rows: &[u64], n: usize, shapes: &[u32; 64]) -> bool
     while i < n {
         let registration = rows[3 * i + 1];
         let reading = rows[3 * i + 2];
-        let meter = use_of(shapes, registration, reading);
-        lacks = lacks | meter.lacks;
+        let missing = lacks_shape(shapes, registration, reading);
+        lacks = lacks | missing;
         i += 1;
     }
     lacks

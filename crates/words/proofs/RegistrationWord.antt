@@ -1,16 +1,17 @@
 -- Word 1: what is packed is what is unpacked, and a word is well formed exactly if a registration in range has it.
 use Prim.Native.Nat.{ℕ, _+_, _*_, _/_, _%_, _^_, _≤_, _<_}
-use mathlib.Core.Path.{_≡_, refl, sym, _∙_}
+use mathlib.Core.Path.{_≡_, refl, _∙_}
 use mathlib.Core.Bool.{Bool, true, false, cond, _&&_, _||_, and-eq-true-iff}
 use native.Mathlib.Nat.{div-one, mod-eq-of-lt}
 use native.Mathlib.Omega.{arith}
+use lib.Bits.{bitAnd}
 use lib.Dec.{leb, eqb}
-use borrow.Author.Tests.{le-leb, leb-true, eq-eqb, ne-eqb, eqb-true, eqb-false}
+use borrow.Author.Tests.{le-leb, eq-eqb, ne-eqb, eqb-true}
 use Rattle.words.specs.declared.Registration.{Registration}
 use Rattle.words.specs.Limits.{segmentMost, directionMost, statusMost, unitMost, categoryMost, llfLeast, llfMost, networkMost, tariffMost}
 use Rattle.words.specs.Registration.{bitField, segmentOf, directionOf, statusOf, baseOf, flagOf, additionalOf, categoryOf, llfOf, networkOf, tariffOf, unitOf, registrationOf, registrationWord, registrationInRange, isRegistration, additionalInRange}
 use Rattle.words.proofs.BitField.{join}
-use Rattle.words.proofs.Tests.{by-test, same-test, same, same-where, allBelow, all-below}
+use Rattle.words.proofs.Tests.{same, same-where, allBelow, all-below}
 use Rattle.words.proofs.Ranges.{RegistrationBounds, registration-bounds}
 
 -- the fields of a word are those of a registration
@@ -71,10 +72,6 @@ module _ (w : ℕ) (ok : isRegistration w ≡ true) where
   unfolding registrationOf
   well-formed-bounds = registration-bounds (registrationOf w) well-formed-in-range
 
-  well-formed-additional : additionalInRange (flagOf w) (additionalOf w) ≡ true
-  unfolding registrationInRange registrationOf
-  well-formed-additional = let k = simp and-eq-true-iff at well-formed-in-range in k .0 .0 .0 .0 .0 .1
-
   pub well-formed-word : registrationWord (registrationOf w) ≡ w
   unfolding registrationWord registrationOf
   well-formed-word =
@@ -90,24 +87,15 @@ unit-bound w = either-way (eqb (flagOf w) 1)
     either-way true = omega arith
     either-way false = omega arith
 
--- with an additional number that fits its bits, the flag or a number of 0 is what is asked of the two
-additional-test : (flag additional : ℕ) → flag ≤ 1 → additional ≤ unitMost → (eqb flag 1 || eqb additional 0) ≡ additionalInRange flag additional
-additional-test flag additional one fits =
-    by-test (eqb flag 1)
-    (λ set.
-    let none : flag ≡ 0 → ⊥ = omega (arith, eqb-true flag 1 set) in
-    rw (set, ne-eqb flag 0 none, le-leb additional unitMost fits))
-    (λ unset.
-    let none : flag ≡ 0 = omega (arith, eqb-false flag 1 unset) in
-    by-test (eqb additional 0) (λ z. rw (unset, eq-eqb flag 0 none, z)) (λ z. rw (unset, eq-eqb flag 0 none, z)))
-
--- every number below 32, tried: its bit of this number is set exactly if the segment and the status in it are in range
-low-tried : allBelow 32 (λ (x : ℕ). same (eqb (7829367 / 2 ^ x % 2) 1) (leb (x % 4) segmentMost && leb (x / 8) statusMost)) ≡ true
+-- every number below 32, tried: no two bits side by side are set, at 0 and 1 or at 3 and 4, exactly if the segment and the status in it are in range
+low-tried : allBelow 32 (λ (x : ℕ). same (eqb (bitAnd (bitAnd x (x / 2)) 9) 0) (leb (x % 4) segmentMost && leb (x / 8) statusMost)) ≡ true
 unfolding allBelow same
 low-tried = refl
 
-low-fields : (x : ℕ) → x < 32 → eqb (7829367 / 2 ^ x % 2) 1 ≡ (leb (x % 4) segmentMost && leb (x / 8) statusMost)
-low-fields x h = same-where _ _ (all-below 32 _ low-tried x h)
+-- every number below 64, tried: its bit of this number is set exactly if the flag in it and the additional number above that are in range
+additional-tried : allBelow 64 (λ (x : ℕ). same (eqb (12297829382473034411 / 2 ^ x % 2) 1) (additionalInRange (x % 2) (x / 2))) ≡ true
+unfolding allBelow same
+additional-tried = refl
 
 below-part : (a b x : ℕ) → a < 4 → a + b * 4 ≡ x → x % 4 ≡ a
 below-part a b x h e = omega arith
@@ -115,56 +103,72 @@ below-part a b x h e = omega arith
 above-part : (a b x : ℕ) → a < 8 → a + b * 8 ≡ x → x / 8 ≡ b
 above-part a b x h e = omega arith
 
+-- the tests that can fail, in the order of the definition and among those that cannot
+in-order : (top segment status additional least most : Bool)
+    → top && (segment && status) && additional && (least && most) ≡ top && (segment && true && status && true && additional && true && least && most && true && true)
+in-order false segment status additional least most = refl
+in-order true false status additional least most = refl
+in-order true true false additional least most = refl
+in-order true true true false least most = refl
+in-order true true true true false most = refl
+in-order true true true true true false = refl
+in-order true true true true true true = refl
+
 module _ (w : ℕ) where
-  low-test : eqb (7829367 / 2 ^ bitField w 0 5 % 2) 1 ≡ (leb (segmentOf w) segmentMost && leb (statusOf w) statusMost)
+  low-test : eqb (bitAnd (bitAnd (bitField w 0 5) (bitField w 0 5 / 2)) 9) 0 ≡ (leb (segmentOf w) segmentMost && leb (statusOf w) statusMost)
   low-test =
-      let short : bitField w 0 5 < 32 = omega arith in
       let segment : bitField w 0 5 % 4 ≡ segmentOf w = rw (div-one w) (below-part (w % 4) (bitField w 2 3) (w % 32) (omega arith) (join w 2 3)) in
       let status : bitField w 0 5 / 8 ≡ statusOf w = rw (div-one w) (above-part (w % 8) (bitField w 3 2) (w % 32) (omega arith) (join w 3 2)) in
-      low-fields (bitField w 0 5) short ∙ rw (segment, status)
+      same-where _ _ (all-below 32 _ low-tried (bitField w 0 5) (omega arith)) ∙ rw (segment, status)
+
+  additional-test : eqb (12297829382473034411 / 2 ^ bitField w 10 6 % 2) 1 ≡ additionalInRange (flagOf w) (additionalOf w)
+  additional-test =
+      let flag : bitField w 10 6 % 2 ≡ flagOf w = omega arith in
+      let additional : bitField w 10 6 / 2 ≡ additionalOf w = omega arith in
+      same-where _ _ (all-below 64 _ additional-tried (bitField w 10 6) (omega arith)) ∙ rw (flag, additional)
 
   -- the tests of a word that can fail: the units, the category, the network and the tariff fill their bits
-  abbrev pub tests : Bool
+  abbrev tests : Bool
   tests =
-      eqb (7829367 / 2 ^ bitField w 0 5 % 2) 1
-      && (eqb (flagOf w) 1 || eqb (additionalOf w) 0)
+      eqb (w / 2 ^ 49) 0
+      && eqb (bitAnd (bitAnd (bitField w 0 5) (bitField w 0 5 / 2)) 9) 0
+      && eqb (12297829382473034411 / 2 ^ bitField w 10 6 % 2) 1
       && (leb llfLeast (llfOf w) && leb (llfOf w) llfMost)
-      && eqb (w / 2 ^ 49) 0
 
-  tests-enough : tests ≡ true → isRegistration w ≡ true
+  registration-tests : tests ≡ isRegistration w
   unfolding isRegistration registrationInRange registrationOf
-  tests-enough h =
-      let k = simp and-eq-true-iff at h in
-      let low = simp and-eq-true-iff at (sym low-test ∙ k .0 .0 .0) in
+  registration-tests =
       rw (
-        k .1,
-        low .0,
-        low .1,
+        low-test,
+        additional-test,
         le-leb (directionOf w) directionMost (omega arith),
         le-leb (baseOf w) unitMost (omega arith),
-        ← additional-test (flagOf w) (additionalOf w) (omega arith) (omega arith),
-        k .0 .0 .1,
         le-leb (categoryOf w) categoryMost (omega arith),
-        k .0 .1 .0,
-        k .0 .1 .1,
         le-leb (networkOf w) networkMost (omega arith),
         le-leb (tariffOf w) tariffMost (omega arith),
       )
+      (in-order (eqb (w / 2 ^ 49) 0) (leb (segmentOf w) segmentMost) (leb (statusOf w) statusMost) (additionalInRange (flagOf w) (additionalOf w)) (leb llfLeast (llfOf w)) (leb (llfOf w) llfMost))
 
-  pub registration-tests : tests ≡ isRegistration w
-  registration-tests = same-test tests (isRegistration w) tests-enough needed
-    where
-      needed : isRegistration w ≡ true → tests ≡ true
-      needed ok =
-          let b = well-formed-bounds w ok in
-          let top : w / 2 ^ 49 ≡ 0 = omega (arith, well-formed-lt w ok) in
-          rw (
-            low-test,
-            le-leb (segmentOf w) segmentMost (b .segment),
-            le-leb (statusOf w) statusMost (b .status),
-            additional-test (flagOf w) (additionalOf w) (omega arith) (omega arith),
-            well-formed-additional w ok,
-            le-leb llfLeast (llfOf w) (b .llf-least),
-            le-leb (llfOf w) llfMost (b .llf-most),
-            eq-eqb (w / 2 ^ 49) 0 top,
-          )
+  -- as the code goes through them: each test fails, or is passed by and leaves those after it
+  pub top-fails : (w / 2 ^ 49 ≡ 0 → ⊥) → false ≡ isRegistration w
+  top-fails h = rw (ne-eqb (w / 2 ^ 49) 0 h) at registration-tests
+
+  module _ (top : w / 2 ^ 49 ≡ 0) where
+    pub low-fails : (x : ℕ) → x ≡ bitField w 0 5 → (bitAnd (bitAnd x (x / 2)) 9 ≡ 0 → ⊥) → false ≡ isRegistration w
+    low-fails x e h =
+        let fails : eqb (bitAnd (bitAnd (bitField w 0 5) (bitField w 0 5 / 2)) 9) 0 ≡ false = rw (← e) (ne-eqb (bitAnd (bitAnd x (x / 2)) 9) 0 h) in
+        rw (eq-eqb (w / 2 ^ 49) 0 top, fails) at registration-tests
+
+    module _ (x : ℕ) (x-is : x ≡ bitField w 0 5) (low : bitAnd (bitAnd x (x / 2)) 9 ≡ 0) where
+      low-passes : eqb (bitAnd (bitAnd (bitField w 0 5) (bitField w 0 5 / 2)) 9) 0 ≡ true
+      low-passes = rw (← x-is) (eq-eqb (bitAnd (bitAnd x (x / 2)) 9) 0 low)
+
+      pub additional-fails : (y : ℕ) → y ≡ bitField w 10 6 → 12297829382473034411 / 2 ^ y % 2 ≡ 0 → false ≡ isRegistration w
+      additional-fails y e h =
+          let fails : eqb (12297829382473034411 / 2 ^ bitField w 10 6 % 2) 1 ≡ false = rw (← e) (ne-eqb (12297829382473034411 / 2 ^ y % 2) 1 (λ q. omega arith)) in
+          rw (eq-eqb (w / 2 ^ 49) 0 top, low-passes, fails) at registration-tests
+
+      pub llf-decides : (y : ℕ) → y ≡ bitField w 10 6 → (12297829382473034411 / 2 ^ y % 2 ≡ 0 → ⊥) → (z : ℕ) → z ≡ bitField w 22 11 → (leb llfLeast z && leb z llfMost) ≡ isRegistration w
+      llf-decides y e h z f =
+          let passes : eqb (12297829382473034411 / 2 ^ bitField w 10 6 % 2) 1 ≡ true = rw (← e) (eq-eqb (12297829382473034411 / 2 ^ y % 2) 1 (omega (arith, h))) in
+          rw f (rw (eq-eqb (w / 2 ^ 49) 0 top, low-passes, passes) at registration-tests)

@@ -1,19 +1,17 @@
 -- `use_of` meets its contract: each return is what the definitions give for the sources of its branch. Assumes nothing.
 use Prim.Native.Nat.{ℕ, _≤_, _<_}
-use mathlib.Core.Path.{_≡_, refl, sym, _∙_, ap}
+use mathlib.Core.Path.{_≡_, refl, sym, _∙_}
 use mathlib.Core.Bool.{true, false}
 use mathlib.Core.List.{List}
 use native.Mathlib.Omega.{arith}
-use lib.ListN.{length, getD}
 use borrow.Author.Needs.{needs}
 use borrow.Author.Tests.{eq-eqb, ne-eqb}
-use Rattle.words.specs.Registration.{categoryOf}
 use Rattle.words.specs.Reading.{consumptionOf}
-use Rattle.book.specs.Limits.{categories, shapeMissing}
+use Rattle.book.specs.Limits.{shapeMissing}
 use Rattle.cells.specs.declared.Use.{Use}
 use Rattle.cells.specs.Energy.{Source, actualReading, estimatedReading, shapeDefault, noEnergy, shapeOf, shapeWh, energyFrom, energyWh, lacksShapeFrom}
 use Rattle.cells.specs.Helpers.{sourceNumber}
-use Rattle.cells.proofs.Entries.{entry-either}
+use Rattle.cells.proofs.MissingShape.{shape-read}
 use Rattle.cells.proofs.meters.use_of.Statement.{statement}
 use Rattle.cells.proofs.meters.use_of.Tie as tie
 
@@ -50,10 +48,6 @@ module _ (shapes : List ℕ) (registration reading : ℕ) where
   of-shape shapeDefault h k e = rw (ne-eqb (shapeOf shapes registration) shapeMissing e)
   of-shape noEnergy h k e = absurd (k refl)
 
-  -- what was read at the category that was taken out
-  shape-read : {k x : ℕ} → length shapes ≡ categories → k ≡ categoryOf registration → x ≡ getD shapes k 0 → x ≡ shapeOf shapes registration
-  shape-read {k} {x} long e f = f ∙ ap (λ (i : ℕ). getD shapes i 0) e ∙ entry-either shapes (categoryOf registration) 0 shapeMissing (omega arith)
-
 source-requires : tie.Need-source-requires
 source-requires c κs = search needs
 
@@ -88,7 +82,7 @@ wide-requires c κs = search needs
 shape-seen : (c : tie.After-wide) → let a = c .before .before .before .before .before .before .args in c .wide .result ≡ shapeOf (a .shapes .now) (a .registration)
 shape-seen c =
     let a = c .before .before .before .before .before .before .args in
-    shape-read (a .shapes .now) (a .registration) (a .reading) (c .before .before .before .before .before .before .pre) (c .before .before .category .ensures) (c .wide .ensures)
+    shape-read (a .shapes .now) (a .registration) (c .before .before .before .before .before .before .pre) (c .before .before .category .ensures) (c .wide .ensures)
 
 returns-3 : tie.Need-returns-3
 unfolding energyWh

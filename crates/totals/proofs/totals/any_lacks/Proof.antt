@@ -6,9 +6,7 @@ use mathlib.Core.List.{List}
 use native.Mathlib.Omega.{arith}
 use Rattle.book.specs.Rows.{rowsOf}
 use Rattle.book.proofs.RowsOf.{rowAt}
-use Rattle.cells.specs.declared.Use.{Use}
-use Rattle.cells.specs.Energy.{anyLacksShape}
-use Rattle.cells.specs.Helpers.{useOf}
+use Rattle.cells.specs.Energy.{lacksShape, anyLacksShape}
 use Rattle.cells.proofs.OneMore.{rows-more, lacks-more}
 use Rattle.totals.proofs.totals.any_lacks.Statement.{statement}
 use Rattle.totals.proofs.totals.any_lacks.Tie as tie
@@ -19,8 +17,8 @@ unfolding rowsOf anyLacksShape
 none-lacks shapes words = refl
 
 -- a turn: row i
-one-more : (shapes words : List ℕ) (i : ℕ) {lacks : Bool} {used : Use} → lacks ≡ anyLacksShape shapes (rowsOf i words)
-    → used ≡ useOf shapes (rowAt words (3 * i) .registration) (rowAt words (3 * i) .reading) → (lacks || used .lacks) ≡ anyLacksShape shapes (rowsOf (i + 1) words)
+one-more : (shapes words : List ℕ) (i : ℕ) {lacks missing : Bool} → lacks ≡ anyLacksShape shapes (rowsOf i words)
+    → missing ≡ lacksShape shapes (rowAt words (3 * i) .registration) (rowAt words (3 * i) .reading) → (lacks || missing) ≡ anyLacksShape shapes (rowsOf (i + 1) words)
 one-more shapes words i a b = rw (a, b, rows-more i words) (sym (lacks-more shapes (rowsOf i words) (rowAt words (3 * i))))
 
 abbrev Inv-loop : tie.InvT-loop
@@ -56,8 +54,8 @@ mul-reading-2 c = omega arith
 shared-slice-read-reading : tie.Need-shared-slice-read-reading Inv-loop μ-loop
 shared-slice-read-reading c = omega arith
 
-use-of-requires : tie.Need-use-of-requires Inv-loop μ-loop
-use-of-requires c κs = c .before .before .before .before .before .pre .1
+lacks-shape-requires : tie.Need-lacks-shape-requires Inv-loop μ-loop
+lacks-shape-requires c κs = c .before .before .before .before .before .pre .1
 
 add-i : tie.Need-add-i Inv-loop μ-loop
 add-i c = omega arith
@@ -66,7 +64,7 @@ loop-less : tie.Need-loop-less Inv-loop μ-loop
 loop-less c = omega arith
 
 loop-again : tie.Need-loop-again Inv-loop μ-loop
-loop-again c = (omega arith, one-more _ _ _ (c .before .before .before .before .before .loop .inv .1) (c .before .use-of .ensures))
+loop-again c = (omega arith, one-more _ _ _ (c .before .before .before .before .loop .inv .1) (c .lacks-shape .ensures))
 
 returns : tie.Need-returns Inv-loop μ-loop
 returns c =
@@ -88,7 +86,7 @@ any-lacks-spec =
     add-reading
     mul-reading-2
     shared-slice-read-reading
-    use-of-requires
+    lacks-shape-requires
     add-i
     loop-less
     loop-again
