@@ -1,7 +1,7 @@
 -- The ways of a totals call, one for each cause and one for acceptance, and what its steps need.
 use Prim.Native.Nat.{ℕ, suc, _*_, _≤_, _<_}
 use mathlib.Core.Path.{_≡_, refl, _∙_, ap}
-use mathlib.Core.Bool.{true, false, not, _&&_}
+use mathlib.Core.Bool.{true, false, not, _&&_, and-eq-true-iff}
 use mathlib.Core.List.{List, _++_}
 use native.Mathlib.Omega.{arith}
 use borrow.Author.Tests.{lt-ltb, le-ltb, leb-true, leb-false, not-false}
@@ -62,6 +62,11 @@ arguments-passed direction network slice e =
     let first = passed (not (leb direction directionMost && leb network networkMost)) 1 (refuse (not (leb totalsWords (length slice))) totalsShort accepted) e in
     let second = passed (not (leb totalsWords (length slice))) 11 accepted (first .1) in
     (not-false _ (first .0), leb-true totalsWords (length slice) (not-false _ (second .0)))
+
+pub asked-bounds : (direction network : ℕ) → (leb direction directionMost && leb network networkMost) ≡ true → (direction ≤ directionMost) × (network ≤ networkMost)
+asked-bounds direction network h =
+    let k = simp and-eq-true-iff at h in
+    (leb-true direction directionMost (k .0), leb-true network networkMost (k .1))
 
 -- the ways
 module _ (s : Settings) (words : List ℕ) (direction network : ℕ) (slice : List ℕ) where

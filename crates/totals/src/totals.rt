@@ -21,6 +21,7 @@ ghost use mathlib.Core.List.{_++_};
 ghost use Prim.Native.Nat.{_+_, _*_, _^_, _≤_, _<_};
 ghost use lib.Dec.{eqb};
 ghost use lib.ListN.{length, drop, getD};
+ghost use Rattle.words.specs.Limits.{directionMost, networkMost};
 ghost use Rattle.words.specs.Registration.{directionOf, networkOf, tariffOf};
 ghost use Rattle.book.specs.Limits.{categories};
 ghost use Rattle.book.specs.Rows.{rowsOf};
@@ -71,9 +72,10 @@ fn arguments_cause(direction: u64, network: u64, words: usize) -> u64
 
 // Whether a meter is of the direction and the network that are asked for.
 fn is_asked(registration: u64, direction: u64, network: u64) -> bool
+    requires { ⌜ direction ≤ directionMost ⌝ ∗ ⌜ network ≤ networkMost ⌝ }
     ensures { λ r. ⌜ r ≡ (eqb (directionOf registration) direction && eqb (networkOf registration) network) ⌝ }
 {
-    (words::direction(registration) == direction) & (words::network(registration) == network)
+    words::charged(registration) == words::charged_to(direction, network)
 }
 
 // Where the four words of a meter's tariff start.
@@ -121,7 +123,7 @@ fn add_rows(
     direction: u64,
     network: u64,
 )
-    requires { ⌜ AddRowsArguments (now totals) (now rows) n (now shapes) ⌝ }
+    requires { ⌜ AddRowsArguments (now totals) (now rows) n (now shapes) ⌝ ∗ ⌜ direction ≤ directionMost ⌝ ∗ ⌜ network ≤ networkMost ⌝ }
     ensures { λ r. ⌜ now (totals .exit) ≡ totalsOf (now (shapes .entry)) (rowsOf n (now (rows .entry))) direction network ++ drop totalsWords (now (totals .entry)) ⌝ }
 {
     let mut i = 0;

@@ -4,6 +4,7 @@ ghost use mathlib.Core.Bool.{true};
 ghost use mathlib.Core.List.{_++_};
 ghost use Prim.Native.Nat.{_+_, _*_, _^_, _≤_, _<_};
 ghost use lib.ListN.{length, drop, replicate};
+ghost use Rattle.words.specs.Limits.{directionMost, networkMost};
 ghost use Rattle.words.specs.Mpan.{isMpan};
 ghost use Rattle.words.specs.Registration.{bitField, segmentOf, directionOf, statusOf, categoryOf, llfOf, networkOf, tariffOf, unitOf, registrationOf, registrationWord, registrationInRange, isRegistration};
 ghost use Rattle.words.specs.Reading.{consumptionOf, qualityOf, issueOf, readingOf, readingWord, readingInRange, qualityAllowed, isActual, isE2orE6, isReading};
@@ -125,6 +126,25 @@ pub fn tariff(w: u64) -> u64
     ensures { λ r. ⌜ r ≡ tariffOf w ⌝ }
 {
     bits(w, 39, 10)
+}
+
+// The bits of word 1 that hold the direction and the network.
+const CHARGED_BITS: u64 = 541_165_879_300;
+
+// The direction and the network of a word, each at its place, and 0 elsewhere. A pass over all rows compares the two at once.
+pub fn charged(w: u64) -> u64
+    ensures { λ r. ⌜ r ≡ directionOf w * 2 ^ 2 + networkOf w * 2 ^ 33 ⌝ }
+{
+    w & CHARGED_BITS
+}
+
+// The same for a direction and a network by themselves.
+pub fn charged_to(direction: u64, network: u64) -> u64
+    requires { ⌜ direction ≤ directionMost ⌝ ∗ ⌜ network ≤ networkMost ⌝ }
+    ensures { λ r. ⌜ r ≡ direction * 2 ^ 2 + network * 2 ^ 33 ⌝ }
+{
+    let placed = put(0, direction, 2);
+    put(placed, network, 33)
 }
 
 impl Registration {

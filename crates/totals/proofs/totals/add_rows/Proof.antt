@@ -95,7 +95,7 @@ abbrev μ-loop : tie.MeasureT-loop
 μ-loop totals₀ rows n shapes direction network i₀ totals i = n - i
 
 loop-holds : tie.Need-loop-holds Inv-loop μ-loop
-loop-holds c = (omega arith, none-added _ _ _ _ (c .before .before .pre) _ _)
+loop-holds c = (omega arith, none-added _ _ _ _ (c .before .before .pre .0) _ _)
 
 mul-registration : tie.Need-mul-registration Inv-loop μ-loop
 mul-registration c = omega arith
@@ -110,7 +110,7 @@ shared-slice-read-registration : tie.Need-shared-slice-read-registration Inv-loo
 shared-slice-read-registration c = omega arith
 
 is-asked-requires : tie.Need-is-asked-requires Inv-loop μ-loop
-is-asked-requires c κs = search needs
+is-asked-requires c κs = c .before .before .before .before .before .pre .1
 
 mul-use-of : tie.Need-mul-use-of Inv-loop μ-loop
 mul-use-of c = omega arith
@@ -129,13 +129,13 @@ abbrev turn : tie.After-is-asked Inv-loop μ-loop → tie.In-loop Inv-loop μ-lo
 turn c = c .before .before
 
 use-of-requires : tie.Need-use-of-requires Inv-loop μ-loop
-use-of-requires c κs = turn (c .before .before) .before .before .before .before .pre .shapes-long
+use-of-requires c κs = turn (c .before .before) .before .before .before .before .pre .0 .shapes-long
 
 add-meter-requires : tie.Need-add-meter-requires Inv-loop μ-loop
 add-meter-requires c κs =
     let u = c .before in
     let t = turn (u .before .before .before) in
-    turn-asks _ _ _ _ (t .before .before .before .before .pre) _ _ _ (t .loop-test .taken) (t .before .loop .inv .1) (u .use-of .ensures)
+    turn-asks _ _ _ _ (t .before .before .before .before .pre .0) _ _ _ (t .loop-test .taken) (t .before .loop .inv .1) (u .use-of .ensures)
 
 add-i : tie.Need-add-i Inv-loop μ-loop
 add-i c = omega arith
@@ -149,13 +149,13 @@ loop-again c =
     let asks = sym (c .before .is-asked .ensures) in (
       omega arith,
       ⊎-elim
-          (λ w. w .7 ∙ turn-adds _ _ _ _ (t .before .before .before .before .pre) _ _ _ (t .loop-test .taken) (t .before .loop .inv .1) (asks ∙ w .0 .taken) (w .2 .ensures) (w .4 .ensures))
-          (λ w. w .1 ∙ turn-passes _ _ _ _ (t .before .before .before .before .pre) _ _ _ (t .loop-test .taken) (t .before .loop .inv .1) (asks ∙ w .0 .left))
+          (λ w. w .7 ∙ turn-adds _ _ _ _ (t .before .before .before .before .pre .0) _ _ _ (t .loop-test .taken) (t .before .loop .inv .1) (asks ∙ w .0 .taken) (w .2 .ensures) (w .4 .ensures))
+          (λ w. w .1 ∙ turn-passes _ _ _ _ (t .before .before .before .before .pre .0) _ _ _ (t .loop-test .taken) (t .before .loop .inv .1) (asks ∙ w .0 .left))
           (c .if1 .came),
     )
 
 same-length : tie.Need-same-length Inv-loop μ-loop
-same-length c = ap length (c .before .loop .inv .1) ∙ same-size _ _ _ _ (c .before .before .before .before .pre) _ _ _
+same-length c = ap length (c .before .loop .inv .1) ∙ same-size _ _ _ _ (c .before .before .before .before .pre .0) _ _ _
 
 returns : tie.Need-returns Inv-loop μ-loop
 returns c =

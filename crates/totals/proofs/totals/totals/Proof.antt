@@ -10,7 +10,7 @@ use Rattle.words.specs.Limits.{directionMost, networkMost}
 use Rattle.book.specs.Limits.{categories}
 use Rattle.book.specs.Book.{wellFormed, lent}
 use Rattle.totals.specs.Totals.{totalsWords}
-use Rattle.totals.proofs.Ways.{way-ill-formed, way-refused, arguments-passed, way-lacks, way-written, meters-room, add-rows-arguments}
+use Rattle.totals.proofs.Ways.{way-ill-formed, way-refused, arguments-passed, way-lacks, way-written, meters-room, add-rows-arguments, asked-bounds}
 use Rattle.totals.proofs.totals.totals.Statement.{statement}
 use Rattle.totals.proofs.totals.totals.Tie as tie
 
@@ -60,8 +60,10 @@ add-rows-requires : tie.Need-add-rows-requires
 add-rows-requires c κs =
     let f = c .before .before .before .before in
     let e = tested (f .before .before .before .before) in
-    let s = e .before .before .before .before .before .before in
-    add-rows-arguments _ _ (formed (e .before .before)) (shapes-long s) (s .args .totals .now) (f .fill .ensures)
+    let s = e .before .before .before .before .before .before in (
+      add-rows-arguments _ _ (formed (e .before .before)) (shapes-long s) (s .args .totals .now) (f .fill .ensures),
+      asked-bounds (s .args .direction) (s .args .network) (passed-on e .0),
+    )
 
 same-length : tie.Need-same-length
 same-length c = search needs
