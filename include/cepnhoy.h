@@ -82,6 +82,10 @@
  *         examples/settle_case_one.c -Ltarget -lcepnhoy
  *     LD_LIBRARY_PATH=target target/settle_case_one
  *
+ * Compile a program with the header of the library that it links. Structs go by value, and the
+ * words of a call in a list are counted by CEPNHOY_CALL_WORDS: with another header's, a call would
+ * read the wrong words.
+ *
  * This header is for C99 or later and C++11 or later.
  */
 #ifndef CEPNHOY_H
