@@ -1,11 +1,11 @@
 -- What the functions below the calls are held to: places of rows, and what storing leaves.
 use Prim.Native.Nat.{ℕ, zero, suc, _≤_}
 use mathlib.Core.Path.{_≡_}
-use mathlib.Core.Bool.{Bool, true, false, not, _||_, cond}
+use mathlib.Core.Bool.{Bool, true, false, _||_, cond}
 use mathlib.Core.List.{List, [], _∷_}
 use lib.Dec.{leb, ltb, eqb}
 use lib.ListN.{length}
-use Rattle.refusals.specs.Causes.{refuse, accepted, argumentOutOfRange, capacityReached}
+use Rattle.refusals.specs.Causes.{accepted, argumentOutOfRange}
 use Rattle.words.specs.declared.Registration.{Registration}
 use Rattle.words.specs.declared.Reading.{Reading}
 use Rattle.words.specs.Registration.{registrationWord}
@@ -19,7 +19,7 @@ use Rattle.book.specs.declared.Held.{Held}
 use Rattle.book.specs.declared.Stored.{Stored}
 use Rattle.book.specs.Settings.{settingInRange, withSetting}
 use Rattle.book.specs.Rows.{Row, capacity, rowsOf, rowsFormed, isKnown, withRegistration, withReading, written}
-use Rattle.book.specs.Store.{registerInRange, hasNoRoom, registrationCause, readingCause}
+use Rattle.book.specs.Store.{registerInRange, causeWhere, registrationCause, readingCause}
 
 -- the row of these words
 abbrev pub row : ℕ → ℕ → ℕ → Row
@@ -69,7 +69,7 @@ askedOf m r = cond (registerInRange m r) (record { ok = true; word = registratio
 
 unfoldable pub wordStoring : ℕ → ℕ → Asked → List Row → Storing
 wordStoring capacity m asked rows =
-    storing (refuse (not (asked .ok)) argumentOutOfRange (refuse (hasNoRoom capacity m rows) capacityReached accepted)) (withRegistration m (asked .word) rows) rows
+    storing (causeWhere (asked .ok) capacity m rows) (withRegistration m (asked .word) rows) rows
 
 unfoldable pub registrationStoring : ℕ → ℕ → Registration → List Row → Storing
 registrationStoring capacity m r rows = storing (registrationCause capacity m r rows) (withRegistration m (registrationWord r) rows) rows

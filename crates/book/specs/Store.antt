@@ -23,11 +23,14 @@ readingCallInRange m r = isMpan m && readingInRange r
 unfoldable pub hasNoRoom : ℕ → ℕ → List Row → Bool
 hasNoRoom capacity m rows = not (isKnown m rows) && leb capacity (length rows)
 
--- the cause for which rows do not take a registration
-unfoldable pub registrationCause : ℕ → ℕ → Registration → List Row → ℕ
-registrationCause capacity m r rows =
-    refuse (not (registerInRange m r)) argumentOutOfRange
+-- the cause for which rows do not take a registration, by whether the arguments are in range
+abbrev pub causeWhere : Bool → ℕ → ℕ → List Row → ℕ
+causeWhere inRange capacity m rows =
+    refuse (not inRange) argumentOutOfRange
     (refuse (hasNoRoom capacity m rows) capacityReached accepted)
+
+unfoldable pub registrationCause : ℕ → ℕ → Registration → List Row → ℕ
+registrationCause capacity m r rows = causeWhere (registerInRange m r) capacity m rows
 
 -- "Reading: stored if its issue number [..] is above the one held. Message order plays no part": the cause for which rows do not take a reading
 unfoldable pub readingCause : ℕ → Reading → List Row → ℕ

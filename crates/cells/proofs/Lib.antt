@@ -3,9 +3,9 @@
 pub mod Each
 pub mod Permuted
 pub mod Entries
-pub mod MissingShape
 pub mod Counting
 -- from meters to cells
+pub mod MissingShape
 pub mod Tables
 pub mod SumOver
 pub mod Stored

@@ -10,7 +10,7 @@ use borrow.Author.Tests.{eq-eqb, ne-eqb}
 use Rattle.words.specs.Registration.{statusOf, categoryOf}
 use Rattle.words.specs.Reading.{noReading, qualityOf, isActual}
 use Rattle.book.specs.Limits.{categories, shapeMissing}
-use Rattle.cells.specs.Energy.{Source, actualReading, estimatedReading, shapeDefault, noEnergy, deEnergised, energised, readingSource, usedDeEnergised, sourceOf, shapeOf, lacksShapeFrom, lacksShape}
+use Rattle.cells.specs.Energy.{actualReading, estimatedReading, noEnergy, deEnergised, energised, readingSource, usedDeEnergised, sourceOf, shapeOf, lacksShapeFrom, lacksShape}
 use Rattle.cells.proofs.Entries.{entry-either}
 
 module _ (shapes : List ℕ) (registration : ℕ) where

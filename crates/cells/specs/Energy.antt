@@ -42,7 +42,7 @@ sourceOf registration reading =
 abbrev pub shapeOf : List ℕ → ℕ → ℕ
 shapeOf shapes registration = getD shapes (categoryOf registration) shapeMissing
 
--- the energy of a shape in Wh; a missing shape gives none (cause 9 refuses an allocation that would use one)
+-- the energy of a shape in Wh; a missing shape gives none (cause 9 refuses an allocation or a totals call that would use one)
 unfoldable pub shapeWh : ℕ → ℕ
 shapeWh shape = cond (eqb shape shapeMissing) 0 shape
 

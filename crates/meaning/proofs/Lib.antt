@@ -1,4 +1,4 @@
--- What a list of calls means: document 01's cases, and that making the calls gives it. From the laws of lists up to the two theorems, `Meant` and `Moved`, and demand 3.
+-- What a list of calls means: document 01's cases, and that making the calls gives it. From the laws of lists up to the two theorems, `Meant` and `Moved`, and demand 3; and that an allocation ignores networks and tariffs.
 pub mod Cases
 -- lists
 pub mod Lists

@@ -47,7 +47,7 @@ listMisshapen = 19
 abbrev pub accepted : ℕ
 accepted = 0
 
--- "The lowest number that applies is given": this cause if it applies, else what comes after it
+-- "The lowest number that applies is given", where causes stand in the order of their numbers: this cause if it applies, else what comes after it
 abbrev pub refuse : Bool → ℕ → ℕ → ℕ
 refuse true cause rest = cause
 refuse false cause rest = rest

@@ -2,15 +2,14 @@
 use Prim.Native.Nat.{ℕ, _+_, _-_, _*_, _/_, _%_, _<_}
 use mathlib.Core.Path.{_≡_, refl, sym, ap, ap₂, _∙_, fun-ext}
 use mathlib.Core.Bool.{Bool, true, false, not, _&&_, cond, and-true, true≢false}
-use mathlib.Core.List.{List, [], _∷_, map}
+use mathlib.Core.List.{List, [], _∷_}
 use native.Mathlib.Omega.{arith}
 use lib.Dec.{eqb}
 use lib.IntN.{ℤ, pos, _+ℤ_}
-use borrow.Author.Tests.{eqb-true, eqb-false, eq-eqb, ne-eqb}
+use borrow.Author.Tests.{eqb-true, eq-eqb, ne-eqb}
 use Rattle.integers.specs.Sum.{sum}
 use Rattle.integers.specs.Rounding.{nearestWh}
 use Rattle.words.specs.Limits.{directionMost}
-use Rattle.words.specs.Reading.{noReading, qualityOf, isActual}
 use Rattle.words.specs.Registration.{segmentOf, directionOf, statusOf, networkOf, tariffOf, unitOf}
 use Rattle.words.proofs.Tests.{by-test}
 use Rattle.words.proofs.RegistrationWord.{unit-bound}
@@ -18,14 +17,15 @@ use Rattle.book.specs.Limits.{classes}
 use Rattle.book.specs.Rows.{Row}
 use Rattle.book.specs.Book.{Book, usedRows, wellFormed}
 use Rattle.book.proofs.WellFormed.{formed-book, formed-settings}
-use Rattle.cells.specs.Energy.{Source, actualReading, estimatedReading, shapeDefault, noEnergy, sourceOf, energyFrom, energyWh, usedDeEnergised, readingSource, energised, deEnergised, Counts, countFor, countsOf, addCounts}
+use Rattle.cells.specs.Energy.{Source, actualReading, estimatedReading, shapeDefault, noEnergy, sourceOf, energyFrom, energyWh, energised, deEnergised, Counts, countFor, countsOf, addCounts}
 use Rattle.cells.specs.Cells.{units, sumOver, isLossClass, energyIn, inCell, consumptionClass, consumptionCell, lossCell, cell, estimateBit}
 use Rattle.cells.proofs.Each.{Each}
 use Rattle.cells.proofs.RowBounds.{RowBounds, rows-bounds, estimate-most}
 use Rattle.totals.specs.Totals.{tariffs, networks, isCharged, actualFrom, otherFrom, actualWh, otherWh, isIdle, oneOf, sumWhere}
 use Rattle.totals.specs.Laws.{sumBelow, wordFor, whOverAll, isConsumptionOf, cellsOverAll, metersOverAll, TotalsAddUp}
 use Rattle.totals.proofs.TotalAt.{wordGives, total-sum}
-use Rattle.totals.proofs.SumBelow.{sum-below-same, sum-below-place, sum-below-over, sum-below-only, onlyAt, sum-over-same}
+use Rattle.totals.proofs.OneMore.{used-status}
+use Rattle.totals.proofs.SumBelow.{sum-below-same, sum-below-place, sum-below-over, sum-below-only, sum-over-same}
 
 -- totals as sums over meters
 
@@ -105,7 +105,7 @@ none false true d e = refl
 none false false d e = refl
 
 -- the counts other than idle
-abbrev pub notIdle : Counts → ℕ
+abbrev notIdle : Counts → ℕ
 notIdle x = x .actual + x .estimated + x .defaulted
 
 counted-all : (meters : List Row) → sumOver (λ registration reading. pos (notIdle (countFor (sourceOf registration reading)))) meters ≡ pos (notIdle (countsOf meters))
@@ -126,7 +126,7 @@ module _ (shapes : List ℕ) (direction : ℕ) where
   wh meters network tariff = sumWhere (isCharged direction network tariff) (actualWh shapes) meters + sumWhere (isCharged direction network tariff) (otherWh shapes) meters
 
   -- actual plus other, over all tariffs and networks
-  pub wh-over-all : (meters : List Row) → sumBelow networks (λ network. sumBelow tariffs (λ tariff. pos (wh meters network tariff))) ≡ sumOver (energyOf shapes direction) meters
+  wh-over-all : (meters : List Row) → sumBelow networks (λ network. sumBelow tariffs (λ tariff. pos (wh meters network tariff))) ≡ sumOver (energyOf shapes direction) meters
   wh-over-all meters =
       sum-below-same networks _ _ (λ network h. sum-below-same tariffs _ _ (λ tariff l. ap pos (sum-where-plus (isCharged direction network tariff) (actualWh shapes) (otherWh shapes) meters)))
       ∙ over-all direction (λ registration reading. actualWh shapes registration reading + otherWh shapes registration reading) meters
@@ -179,7 +179,7 @@ module _ (shapes : List ℕ) (direction : ℕ) where
           (λ t. rw t (none s (isConsumptionOf direction class) d e))
 
   -- the consumption cells of the direction, over all units and classes
-  pub cells-over-all : {meters : List Row} → Each (RowBounds shapes) meters
+  cells-over-all : {meters : List Row} → Each (RowBounds shapes) meters
       → sumBelow units (λ unit. sumBelow classes (λ class. cond (isConsumptionOf direction class) (cell shapes meters unit class) (pos 0))) ≡ sumOver (energyOf shapes direction) meters
   cells-over-all {meters = meters} each =
       sum-below-same units _ _
@@ -189,27 +189,32 @@ module _ (shapes : List ℕ) (direction : ℕ) where
       ∙ sum-below-over units (λ unit registration reading. sumBelow classes (λ class. cond (isConsumptionOf direction class) (energyIn shapes unit class registration reading) (pos 0))) meters
       ∙ sum-over-same _ (energyOf shapes direction) cell-once each
 
--- a meter that is not idle is energised or de-energised, and counts once
-counted-one : (registration reading : ℕ) → oneOf energised registration reading + oneOf deEnergised registration reading ≡ notIdle (countFor (sourceOf registration reading))
-unfolding oneOf isIdle sourceOf readingSource countFor
-counted-one registration reading =
-    by (eqb (statusOf registration) energised) (eqb (statusOf registration) deEnergised) (eqb reading noReading) (usedDeEnergised reading) (isActual (qualityOf reading))
-    (λ on. ne-eqb (statusOf registration) deEnergised (λ off. omega (arith, eqb-true (statusOf registration) energised on)))
-  where
-    from : (on off none used actual : Bool) → Source
-    from on off none used actual =
-        cond on (cond none shapeDefault (cond actual actualReading estimatedReading)) (cond (off && used) (cond actual actualReading estimatedReading) noEnergy)
+-- the counts of one meter, by whether it is idle
+idle-counts : (x : Source) → isIdle x ≡ true → 0 ≡ notIdle (countFor x)
+unfolding isIdle countFor
+idle-counts actualReading h = absurd (true≢false (sym h))
+idle-counts estimatedReading h = absurd (true≢false (sym h))
+idle-counts shapeDefault h = absurd (true≢false (sym h))
+idle-counts noEnergy h = refl
 
-    by : (on off none used actual : Bool) → (on ≡ true → off ≡ false)
-        → cond (not (isIdle (from on off none used actual)) && on) 1 0 + cond (not (isIdle (from on off none used actual)) && off) 1 0 ≡ notIdle (countFor (from on off none used actual))
-    by true true none used actual h = absurd (true≢false (h refl))
-    by true false true used actual h = refl
-    by true false false used true h = refl
-    by true false false used false h = refl
-    by false true none true true h = refl
-    by false true none true false h = refl
-    by false true none false actual h = refl
-    by false false none used actual h = refl
+used-counts : (x : Source) → isIdle x ≡ false → 1 ≡ notIdle (countFor x)
+unfolding isIdle countFor
+used-counts actualReading h = refl
+used-counts estimatedReading h = refl
+used-counts shapeDefault h = refl
+used-counts noEnergy h = absurd (true≢false h)
+
+-- a meter that is not idle has one of two statuses, and counts once
+counted-one : (registration reading : ℕ) → oneOf energised registration reading + oneOf deEnergised registration reading ≡ notIdle (countFor (sourceOf registration reading))
+unfolding oneOf
+counted-one registration reading =
+    by-test (isIdle (sourceOf registration reading))
+    (λ idle. rw idle (idle-counts (sourceOf registration reading) idle))
+    (λ used. rw (used, used-status registration reading used) (either (eqb (statusOf registration) energised) ∙ used-counts (sourceOf registration reading) used))
+  where
+    either : (on : Bool) → cond on 1 0 + cond (not on) 1 0 ≡ 1
+    either true = refl
+    either false = refl
 
 module _ (meters : List Row) where
   abbrev ones : ℕ → ℕ → ℕ
@@ -219,7 +224,7 @@ module _ (meters : List Row) where
   numbers direction network tariff = sumWhere (isCharged direction network tariff) (oneOf energised) meters + sumWhere (isCharged direction network tariff) (oneOf deEnergised) meters
 
   -- the two numbers of meters, over all tariffs, networks and both directions
-  pub meters-over-all : sumBelow (directionMost + 1) (λ direction. sumBelow networks (λ network. sumBelow tariffs (λ tariff. pos (numbers direction network tariff)))) ≡ pos (notIdle (countsOf meters))
+  meters-over-all : sumBelow (directionMost + 1) (λ direction. sumBelow networks (λ network. sumBelow tariffs (λ tariff. pos (numbers direction network tariff)))) ≡ pos (notIdle (countsOf meters))
   meters-over-all =
       sum-below-same (directionMost + 1) _ _
       (λ direction k.
@@ -249,7 +254,7 @@ module _ (b : Book) (formed : wellFormed b ≡ true) where
   totals-add-up =
       record {
         wh =
-            λ direction few.
+            λ direction.
             sum-below-same networks _ _ (λ network h. sum-below-same tariffs _ _ (λ tariff l. ap pos (words-are direction network tariff 0 1 l (omega arith) (omega arith))))
             ∙ wh-over-all (b .settings .shapes) direction (usedRows b)
             ∙ sym (cells-over-all (b .settings .shapes) direction bounds);

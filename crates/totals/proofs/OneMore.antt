@@ -13,9 +13,10 @@ use Rattle.words.proofs.Tests.{by-test, same-test}
 use Rattle.book.specs.Rows.{Row}
 use Rattle.cells.specs.declared.Use.{Use}
 use Rattle.cells.specs.Energy.{Source, actualReading, estimatedReading, shapeDefault, noEnergy, sourceOf, energyWh, energised, deEnergised}
-use Rattle.cells.specs.Helpers.{sourceNumber, useOf}
+use Rattle.cells.specs.Helpers.{sourceNumber, estimateOf, useOf}
+use Rattle.cells.proofs.OneMore.{estimate-few}
 use Rattle.totals.specs.Totals.{tariffs, totalsWords, isCharged, actualFrom, otherFrom, isIdle, oneOf, totalsOf}
-use Rattle.totals.specs.Helpers.{increased, energyWord, countWord, withMeter}
+use Rattle.totals.specs.Helpers.{increased, countWord, withMeter}
 use Rattle.totals.proofs.SumWhere.{sum-where-last}
 use Rattle.totals.proofs.TotalAt.{wordGives, totals-length, total-sum, totals-are}
 
@@ -42,13 +43,6 @@ same-word a x t k h l =
     (λ e. eq-eqb (4 * a + x) (4 * t + k) (omega (arith, eqb-true a t s, eqb-true x k e)))))
     (λ s. rw s (ne-eqb (4 * a + x) (4 * t + k) (λ e. eqb-false a t s (omega arith))))
 
-pub energy-word-bound : (from : ℕ) → energyWord from < 2
-energy-word-bound from = by (eqb from 0)
-  where
-    by : (t : Bool) → cond t 0 1 < 2
-    by true = omega arith
-    by false = omega arith
-
 pub count-word-bound : (registration : ℕ) → (1 < countWord registration) × (countWord registration < 4)
 count-word-bound registration = by (eqb (statusOf registration) energised)
   where
@@ -59,7 +53,7 @@ count-word-bound registration = by (eqb (statusOf registration) energised)
 -- what a meter gives to the words of its tariff
 
 -- a meter that is not idle is energised or de-energised
-used-status : (registration reading : ℕ) → isIdle (sourceOf registration reading) ≡ false → eqb (statusOf registration) deEnergised ≡ not (eqb (statusOf registration) energised)
+pub used-status : (registration reading : ℕ) → isIdle (sourceOf registration reading) ≡ false → eqb (statusOf registration) deEnergised ≡ not (eqb (statusOf registration) energised)
 unfolding sourceOf isIdle
 used-status registration reading h =
     by-test (eqb (statusOf registration) energised)
@@ -82,7 +76,7 @@ idle-energy estimatedReading wh h = absurd (true≢false (sym h))
 idle-energy shapeDefault wh h = absurd (true≢false (sym h))
 idle-energy noEnergy wh h = (refl, refl)
 
-used-energy : (s : Source) (wh : ℕ) → isIdle s ≡ false → (actualFrom s wh ≡ cond (eqb (energyWord (sourceNumber s)) 0) wh 0) × (otherFrom s wh ≡ cond (eqb (energyWord (sourceNumber s)) 1) wh 0)
+used-energy : (s : Source) (wh : ℕ) → isIdle s ≡ false → (actualFrom s wh ≡ cond (eqb (estimateOf (sourceNumber s)) 0) wh 0) × (otherFrom s wh ≡ cond (eqb (estimateOf (sourceNumber s)) 1) wh 0)
 unfolding isIdle actualFrom otherFrom
 used-energy actualReading wh h = (refl, refl)
 used-energy estimatedReading wh h = (refl, refl)
@@ -97,7 +91,7 @@ module _ (shapes : List ℕ) (registration reading : ℕ) where
   wh = energyWh shapes registration reading
 
   abbrev energyAt : ℕ
-  energyAt = energyWord (sourceNumber source)
+  energyAt = estimateOf (sourceNumber source)
 
   idle-gives : isIdle source ≡ true → (k : ℕ) → wordGives shapes k registration reading ≡ 0
   unfolding oneOf
@@ -110,12 +104,12 @@ module _ (shapes : List ℕ) (registration reading : ℕ) where
   unfolding oneOf
   used-gives h zero l = rw (ne-eqb (countWord registration) 0 (λ e. omega (arith, count-word-bound registration))) (omega (arith, used-energy source wh h .0))
   used-gives h (suc zero) l = rw (ne-eqb (countWord registration) 1 (λ e. omega (arith, count-word-bound registration))) (omega (arith, used-energy source wh h .1))
-  used-gives h (suc (suc zero)) l = rw (ne-eqb energyAt 2 (λ e. omega (arith, energy-word-bound (sourceNumber source))), h) (by (eqb (statusOf registration) energised))
+  used-gives h (suc (suc zero)) l = rw (ne-eqb energyAt 2 (λ e. omega (arith, estimate-few (sourceNumber source))), h) (by (eqb (statusOf registration) energised))
     where
       by : (t : Bool) → _≡_ {A = ℕ} (cond t 1 0) (0 + cond (eqb (cond t 2 3) 2) 1 0)
       by true = refl
       by false = refl
-  used-gives h (suc (suc (suc zero))) l = rw (ne-eqb energyAt 3 (λ e. omega (arith, energy-word-bound (sourceNumber source))), h, used-status registration reading h) (by (eqb (statusOf registration) energised))
+  used-gives h (suc (suc (suc zero))) l = rw (ne-eqb energyAt 3 (λ e. omega (arith, estimate-few (sourceNumber source))), h, used-status registration reading h) (by (eqb (statusOf registration) energised))
     where
       by : (t : Bool) → _≡_ {A = ℕ} (cond (not t) 1 0) (0 + cond (eqb (cond t 2 3) 3) 1 0)
       by true = refl
@@ -161,7 +155,7 @@ module _ (shapes : List ℕ) (meters : List Row) (r : Row) (direction network : 
       by false = refl
 
   abbrev energyPlace : ℕ
-  energyPlace = 4 * tariffOf (r .registration) + energyWord (used .source)
+  energyPlace = 4 * tariffOf (r .registration) + estimateOf (used .source)
 
   abbrev countPlace : ℕ
   countPlace = 4 * tariffOf (r .registration) + countWord (r .registration)
@@ -172,20 +166,20 @@ module _ (shapes : List ℕ) (meters : List Row) (r : Row) (direction network : 
   gives-at same busy t k l =
       rw (
         same,
-        same-word (tariffOf (r .registration)) (energyWord (used .source)) t k (omega (arith, energy-word-bound (used .source))) l,
+        same-word (tariffOf (r .registration)) (estimateOf (used .source)) t k (omega (arith, estimate-few (used .source))) l,
         same-word (tariffOf (r .registration)) (countWord (r .registration)) t k (count-word-bound (r .registration) .1) l,
       )
       (by (eqb (tariffOf (r .registration)) t) (used-gives shapes (r .registration) (r .reading) busy k l))
     where
-      by : (s : Bool) {g : ℕ} → g ≡ cond (eqb (energyWord (used .source)) k) (used .wh) 0 + cond (eqb (countWord (r .registration)) k) 1 0
-          → cond s g 0 ≡ cond (s && eqb (energyWord (used .source)) k) (used .wh) 0 + cond (s && eqb (countWord (r .registration)) k) 1 0
+      by : (s : Bool) {g : ℕ} → g ≡ cond (eqb (estimateOf (used .source)) k) (used .wh) 0 + cond (eqb (countWord (r .registration)) k) 1 0
+          → cond s g 0 ≡ cond (s && eqb (estimateOf (used .source)) k) (used .wh) 0 + cond (s && eqb (countWord (r .registration)) k) 1 0
       by true e = e
       by false e = refl
 
   used-added : asked ≡ true → isIdle (sourceOf (r .registration) (r .reading)) ≡ false → increased (increased before energyPlace (used .wh)) countPlace 1 ≡ after
   used-added same busy =
       let long = totals-length shapes meters direction network 0 tariffs in
-      let first : energyPlace < length before = omega (arith, long, energy-word-bound (used .source)) in
+      let first : energyPlace < length before = omega (arith, long, estimate-few (used .source)) in
       let long-still : length (increased before energyPlace (used .wh)) ≡ totalsWords = length-set before energyPlace (getD before energyPlace 0 + used .wh) ∙ long in
       let second : countPlace < length (increased before energyPlace (used .wh)) = omega (arith, long-still, count-word-bound (r .registration)) in
       totals-are shapes (meters ++ (r ∷ [])) direction network (increased (increased before energyPlace (used .wh)) countPlace 1)
@@ -212,9 +206,9 @@ module _ (shapes : List ℕ) (meters : List Row) (r : Row) (direction network : 
 pub with-meter-append : (xs ys : List ℕ) (registration : ℕ) (used : Use) → length xs ≡ totalsWords → withMeter (xs ++ ys) registration used ≡ withMeter xs registration used ++ ys
 unfolding withMeter
 with-meter-append xs ys registration used long =
-    let energyPlace = 4 * tariffOf registration + energyWord (used .source) in
+    let energyPlace = 4 * tariffOf registration + estimateOf (used .source) in
     let countPlace = 4 * tariffOf registration + countWord registration in
-    let first : energyPlace < length xs = omega (arith, energy-word-bound (used .source)) in
+    let first : energyPlace < length xs = omega (arith, estimate-few (used .source)) in
     let second : countPlace < length (increased xs energyPlace (used .wh)) = rw length-set (omega (arith, count-word-bound registration)) in
     by-test (eqb (used .source) 3)
     (λ t. rw t)

@@ -1,12 +1,12 @@
 -- Sums over the numbers below a bound: term by term, of two sums, of zeros, with one term that is not 0, and of sums over meters.
 use Prim.Native.Nat.{ℕ, zero, suc, _+_, _≤_, _<_}
-use mathlib.Core.Path.{_≡_, refl, sym, ap, ap₂, _∙_}
+use mathlib.Core.Path.{_≡_, refl, ap, ap₂, _∙_}
 use mathlib.Core.Bool.{Bool, true, false, _&&_, cond}
 use mathlib.Core.List.{List, [], _∷_, map}
 use native.Mathlib.Omega.{arith}
 use lib.Dec.{eqb}
 use lib.IntN.{ℤ, pos, _+ℤ_, +ℤ-idl, +ℤ-idr}
-use borrow.Author.Tests.{eqb-true, eqb-false, eq-eqb, ne-eqb}
+use borrow.Author.Tests.{eqb-true, eqb-false, ne-eqb}
 use Rattle.integers.specs.Sum.{sum}
 use Rattle.integers.proofs.Ring.{plus-exchange}
 use Rattle.words.proofs.Tests.{by-test}
@@ -30,7 +30,7 @@ from-plus f g k zero = refl
 from-plus f g k (suc n) =
     ap (λ z. (f k +ℤ g k) +ℤ z) (from-plus f g (suc k) n) ∙ plus-exchange (f k) (g k) (sumFrom f (suc k) n) (sumFrom g (suc k) n)
 
-pub sum-below-plus : (n : ℕ) (f g : ℕ → ℤ) → sumBelow n (λ i. f i +ℤ g i) ≡ sumBelow n f +ℤ sumBelow n g
+sum-below-plus : (n : ℕ) (f g : ℕ → ℤ) → sumBelow n (λ i. f i +ℤ g i) ≡ sumBelow n f +ℤ sumBelow n g
 sum-below-plus n f g = from-plus f g 0 n
 
 from-zeros : (k n : ℕ) → sumFrom (λ i. pos 0) k n ≡ pos 0
@@ -38,11 +38,11 @@ unfolding sum countFrom
 from-zeros k zero = refl
 from-zeros k (suc n) = ap (λ z. pos 0 +ℤ z) (from-zeros (suc k) n)
 
-pub sum-below-zeros : (n : ℕ) → sumBelow n (λ i. pos 0) ≡ pos 0
+sum-below-zeros : (n : ℕ) → sumBelow n (λ i. pos 0) ≡ pos 0
 sum-below-zeros n = from-zeros 0 n
 
 -- one term that is not 0
-abbrev pub onlyAt : ℕ → ℤ → ℕ → ℤ
+abbrev onlyAt : ℕ → ℤ → ℕ → ℤ
 onlyAt m v i = cond (eqb m i) v (pos 0)
 
 from-past : (m : ℕ) (v : ℤ) (k n : ℕ) → m < k → sumFrom (onlyAt m v) k n ≡ pos 0
@@ -62,7 +62,7 @@ pub sum-below-only : (n m : ℕ) (v : ℤ) → m < n → sumBelow n (onlyAt m v)
 sum-below-only n m v h = from-only m v 0 n (omega arith) (omega arith)
 
 -- a sum of which every term is under one test
-pub sum-below-where : (n : ℕ) (t : Bool) (f : ℕ → ℤ) → sumBelow n (λ i. cond t (f i) (pos 0)) ≡ cond t (sumBelow n f) (pos 0)
+sum-below-where : (n : ℕ) (t : Bool) (f : ℕ → ℤ) → sumBelow n (λ i. cond t (f i) (pos 0)) ≡ cond t (sumBelow n f) (pos 0)
 sum-below-where n true f = refl
 sum-below-where n false f = sum-below-zeros n
 

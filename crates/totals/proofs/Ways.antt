@@ -4,8 +4,8 @@ use mathlib.Core.Path.{_≡_, refl, _∙_, ap}
 use mathlib.Core.Bool.{true, false, not, _&&_, and-eq-true-iff}
 use mathlib.Core.List.{List, _++_}
 use native.Mathlib.Omega.{arith}
-use borrow.Author.Tests.{lt-ltb, le-ltb, leb-true, leb-false, not-false}
-use lib.Dec.{leb}
+use borrow.Author.Tests.{le-ltb, ltb-false, leb-true, not-false}
+use lib.Dec.{leb, ltb}
 use lib.ListN.{length, getD, drop, replicate, length-append, length-replicate, getD-replicate, List·getD-append}
 use lib.Seq.{drop-at}
 use Rattle.refusals.specs.Causes.{refuse, bookIllFormed, argumentOutOfRange, totalsShort, shapeOfDefaultMissing, accepted}
@@ -18,8 +18,8 @@ use Rattle.book.specs.Rows.{Row, capacity, rowsOf}
 use Rattle.book.specs.Book.{usedRows, wellFormed, lent}
 use Rattle.book.proofs.WellFormed.{room, formed-book, formed-settings}
 use Rattle.cells.specs.Energy.{anyLacksShape}
-use Rattle.totals.specs.Totals.{totalsWords, totalsOf, totalsCause, totalsOutcome, totalsCall, TotalsGives}
-use Rattle.totals.specs.Helpers.{argumentsCause, AddRowsArguments}
+use Rattle.totals.specs.Totals.{totalsWords, totalsOf, argumentsCause, totalsCause, totalsOutcome, totalsCall, TotalsGives}
+use Rattle.totals.specs.Helpers.{AddRowsArguments}
 
 -- the meters of a book
 abbrev pub metersIn : Settings → List ℕ → List Row
@@ -56,12 +56,12 @@ module _ (s : Settings) (words : List ℕ) (wf : wellFormed (lent s words) ≡ t
       }
 
 -- where neither cause 2 nor cause 12 is given
-pub arguments-passed : (direction network : ℕ) (slice : List ℕ) → argumentsCause direction network (length slice) ≡ accepted
+pub arguments-passed : (direction network : ℕ) (slice : List ℕ) → argumentsCause direction network (length slice) accepted ≡ accepted
     → ((leb direction directionMost && leb network networkMost) ≡ true) × (totalsWords ≤ length slice)
 arguments-passed direction network slice e =
-    let first = passed (not (leb direction directionMost && leb network networkMost)) 1 (refuse (not (leb totalsWords (length slice))) totalsShort accepted) e in
-    let second = passed (not (leb totalsWords (length slice))) 11 accepted (first .1) in
-    (not-false _ (first .0), leb-true totalsWords (length slice) (not-false _ (second .0)))
+    let first = passed (not (leb direction directionMost && leb network networkMost)) 1 (refuse (ltb (length slice) totalsWords) totalsShort accepted) e in
+    let second = passed (ltb (length slice) totalsWords) 11 accepted (first .1) in
+    (not-false _ (first .0), ltb-false (length slice) totalsWords (second .0))
 
 pub asked-bounds : (direction network : ℕ) → (leb direction directionMost && leb network networkMost) ≡ true → (direction ≤ directionMost) × (network ≤ networkMost)
 asked-bounds direction network h =
@@ -87,19 +87,19 @@ module _ (s : Settings) (words : List ℕ) (direction network : ℕ) (slice : Li
     unfolding totalsCause
     way-out-of-range h = refusal 1 (rw (wf, h))
 
-    way-short : (leb direction directionMost && leb network networkMost) ≡ true → leb totalsWords (length slice) ≡ false
+    way-short : (leb direction directionMost && leb network networkMost) ≡ true → ltb (length slice) totalsWords ≡ true
         → TotalsGives (totalsCall (lent s words) direction network slice) (record { number = totalsShort; settings = s }) words slice
     unfolding totalsCause
-    way-short range h = refusal 11 (rw (wf, range, lt-ltb (length slice) totalsWords (leb-false totalsWords (length slice) h)))
+    way-short range h = refusal 11 (rw (wf, range, h))
 
-    pub way-refused : (cause : ℕ) → cause ≡ argumentsCause direction network (length slice) → (cause ≡ accepted → ⊥)
+    pub way-refused : (cause : ℕ) → cause ≡ argumentsCause direction network (length slice) accepted → (cause ≡ accepted → ⊥)
         → TotalsGives (totalsCall (lent s words) direction network slice) (record { number = cause; settings = s }) words slice
     way-refused cause e some =
         by-test (leb direction directionMost && leb network networkMost)
         (λ range.
-        by-test (leb totalsWords (length slice))
-        (λ long. absurd (some (e ∙ rw (range, long))))
-        (λ short. rw (e, range, short) (way-short range short)))
+        by-test (ltb (length slice) totalsWords)
+        (λ short. rw (e, range, short) (way-short range short))
+        (λ long. absurd (some (e ∙ rw (range, long)))))
         (λ out. rw (e, out) (way-out-of-range out))
 
     module _ (range : (leb direction directionMost && leb network networkMost) ≡ true) where

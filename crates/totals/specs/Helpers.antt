@@ -1,35 +1,24 @@
 -- What the functions of the totals call are held to.
 use Prim.Native.Nat.{ℕ, _+_, _*_, _≤_, _<_}
 use mathlib.Core.Path.{_≡_}
-use mathlib.Core.Bool.{true, not, _&&_, cond}
+use mathlib.Core.Bool.{true, cond}
 use mathlib.Core.List.{List}
-use lib.Dec.{leb, eqb}
+use lib.Dec.{eqb}
 use lib.ListN.{length, getD, set}
-use Rattle.refusals.specs.Causes.{refuse, accepted, argumentOutOfRange, totalsShort}
-use Rattle.words.specs.Limits.{directionMost, networkMost}
 use Rattle.words.specs.Registration.{statusOf, tariffOf}
 use Rattle.book.specs.Limits.{metersMost, categories}
 use Rattle.book.specs.Settings.{isShape, allOf}
 use Rattle.book.specs.Rows.{rowsOf, rowsFormed}
 use Rattle.cells.specs.declared.Use.{Use}
 use Rattle.cells.specs.Energy.{energised}
+use Rattle.cells.specs.Helpers.{estimateOf}
 use Rattle.totals.specs.Totals.{totalsWords}
-
--- causes 2 and 12, of what is asked and of the length of the slice that is lent
-abbrev pub argumentsCause : ℕ → ℕ → ℕ → ℕ
-argumentsCause direction network words =
-    refuse (not (leb direction directionMost && leb network networkMost)) argumentOutOfRange
-    (refuse (not (leb totalsWords words)) totalsShort accepted)
 
 -- a list with an amount added to one number
 abbrev pub increased : List ℕ → ℕ → ℕ → List ℕ
 increased xs at amount = set xs at (getD xs at 0 + amount)
 
--- which of a tariff's four words a meter's energy goes to, by the number of its source
-abbrev pub energyWord : ℕ → ℕ
-energyWord from = cond (eqb from 0) 0 1
-
--- and which of them counts the meter, by its status
+-- which of a tariff's four words counts the meter, by its status; its energy goes to the word of its e (`estimateOf`): 0 for an actual reading, else 1
 abbrev pub countWord : ℕ → ℕ
 countWord registration = cond (eqb (statusOf registration) energised) 2 3
 
@@ -38,7 +27,7 @@ unfoldable pub withMeter : List ℕ → ℕ → Use → List ℕ
 withMeter totals registration used =
     cond (eqb (used .source) 3)
     totals
-    (increased (increased totals (4 * tariffOf registration + energyWord (used .source)) (used .wh)) (4 * tariffOf registration + countWord registration) 1)
+    (increased (increased totals (4 * tariffOf registration + estimateOf (used .source)) (used .wh)) (4 * tariffOf registration + countWord registration) 1)
 
 -- what `add_meter` is held to: the words of all tariffs, far from the width's end
 pub record AddArguments (totals : List ℕ) (used : Use) : Type 0 where

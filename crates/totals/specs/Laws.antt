@@ -1,5 +1,5 @@
 -- What the totals of a book add up to.
-use Prim.Native.Nat.{ℕ, _+_, _*_, _/_, _%_, _≤_}
+use Prim.Native.Nat.{ℕ, _+_, _*_, _/_, _%_}
 use mathlib.Core.Path.{_≡_}
 use mathlib.Core.Bool.{Bool, _&&_, cond}
 use mathlib.Core.List.{map}
@@ -44,6 +44,6 @@ metersOverAll b =
 
 pub record TotalsAddUp (b : Book) : Type 0 where
   -- "Actual plus other over all tariffs and networks is the sum of that direction's consumption cells"
-  pub wh : (direction : ℕ) → direction ≤ directionMost → whOverAll b direction ≡ cellsOverAll b direction
+  pub wh : (direction : ℕ) → whOverAll b direction ≡ cellsOverAll b direction
   -- the meters that are not idle, each counted once
   pub meters : metersOverAll b ≡ pos (countsOf (usedRows b) .actual + countsOf (usedRows b) .estimated + countsOf (usedRows b) .defaulted)

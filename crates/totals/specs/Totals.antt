@@ -1,12 +1,12 @@
 -- Document 02, request 1: "A totals call writes four unsigned 64-bit words for each tariff, in tariff order, of one direction and embedded network".
-use Prim.Native.Nat.{ℕ, zero, suc, _+_}
+use Prim.Native.Nat.{ℕ, zero, suc, _+_, _*_}
 use mathlib.Core.Path.{_≡_}
 use mathlib.Core.Bool.{Bool, true, false, not, _&&_, cond}
 use mathlib.Core.List.{List, [], _∷_, _++_}
 use lib.Dec.{leb, ltb, eqb}
 use lib.ListN.{length, drop}
 use Rattle.refusals.specs.Causes.{refuse, accepted, bookIllFormed, argumentOutOfRange, totalsShort, shapeOfDefaultMissing}
-use Rattle.words.specs.Limits.{directionMost, networkMost}
+use Rattle.words.specs.Limits.{directionMost, networkMost, tariffMost}
 use Rattle.words.specs.Registration.{directionOf, statusOf, networkOf, tariffOf}
 use Rattle.book.specs.declared.Answer.{Answer}
 use Rattle.book.specs.Rows.{Row}
@@ -15,14 +15,14 @@ use Rattle.cells.specs.Energy.{Source, actualReading, estimatedReading, shapeDe
 
 -- "a tariff (0 to 1,023)", "an embedded network (0 to 63 [..])": how many there are
 abbrev pub tariffs : ℕ
-tariffs = 1024
+tariffs = tariffMost + 1
 
 abbrev pub networks : ℕ
-networks = 64
+networks = networkMost + 1
 
--- "a totals slice shorter than 4,096": the words of all tariffs
+-- "a totals slice shorter than 4,096": four words for each tariff
 abbrev pub totalsWords : ℕ
-totalsWords = 4096
+totalsWords = 4 * tariffs
 
 -- "of one direction and embedded network": whether a meter is of these and of a tariff
 unfoldable pub isCharged : ℕ → ℕ → ℕ → ℕ → Bool
@@ -88,13 +88,18 @@ totalsOf shapes meters direction network = totalsFrom shapes meters direction ne
 abbrev pub bookTotals : Book → ℕ → ℕ → List ℕ
 bookTotals b direction network = totalsOf (b .settings .shapes) (usedRows b) direction network
 
--- "The totals call also gives refusal 9, for any meter of the book, and 12, after 2, for a totals slice shorter than 4,096": its causes in order
+-- "12, after 2, for a totals slice shorter than 4,096": 2 of the direction and the network that are asked for, then 12 of the slice's length, then the causes after them
+abbrev pub argumentsCause : ℕ → ℕ → ℕ → ℕ → ℕ
+argumentsCause direction network words rest =
+    refuse (not (leb direction directionMost && leb network networkMost)) argumentOutOfRange
+    (refuse (ltb words totalsWords) totalsShort rest)
+
+-- "The totals call also gives refusal 9, for any meter of the book": its causes in order
 unfoldable pub totalsCause : Book → ℕ → ℕ → List ℕ → ℕ
 totalsCause b direction network slice =
     refuse (not (wellFormed b)) bookIllFormed
-    (refuse (not (leb direction directionMost && leb network networkMost)) argumentOutOfRange
-    (refuse (ltb (length slice) totalsWords) totalsShort
-    (refuse (anyLacksShape (b .settings .shapes) (usedRows b)) shapeOfDefaultMissing accepted)))
+    (argumentsCause direction network (length slice)
+    (refuse (anyLacksShape (b .settings .shapes) (usedRows b)) shapeOfDefaultMissing accepted))
 
 -- what a totals call leaves: the number given, the book and the totals slice
 pub record Totalled : Type 0 where

@@ -21,14 +21,15 @@ ghost use mathlib.Core.List.{_++_};
 ghost use Prim.Native.Nat.{_+_, _*_, _^_, _≤_, _<_};
 ghost use lib.Dec.{eqb};
 ghost use lib.ListN.{length, drop, getD};
+ghost use Rattle.refusals.specs.Causes.{accepted};
 ghost use Rattle.words.specs.Limits.{directionMost, networkMost};
 ghost use Rattle.words.specs.Registration.{directionOf, networkOf, tariffOf};
 ghost use Rattle.book.specs.Limits.{categories};
 ghost use Rattle.book.specs.Rows.{rowsOf};
 ghost use Rattle.book.specs.Book.{lent};
 ghost use Rattle.cells.specs.Energy.{anyLacksShape};
-ghost use Rattle.totals.specs.Totals.{totalsWords, totalsOf, totalsCall, TotalsGives};
-ghost use Rattle.totals.specs.Helpers.{argumentsCause, increased, withMeter, AddArguments, AddRowsArguments};
+ghost use Rattle.totals.specs.Totals.{totalsWords, totalsOf, argumentsCause, totalsCall, TotalsGives};
+ghost use Rattle.totals.specs.Helpers.{increased, withMeter, AddArguments, AddRowsArguments};
 
 pub const TARIFFS: usize = 1_024;
 
@@ -56,15 +57,15 @@ fn any_lacks(rows: &[u64], n: usize, shapes: &[u32; 64]) -> bool
 // The number of the refusal for what is asked and lent, or 0: a direction or a network out of range comes before a slice that is
 // too short.
 fn arguments_cause(direction: u64, network: u64, words: usize) -> u64
-    ensures { λ r. ⌜ r ≡ argumentsCause direction network words ⌝ }
+    ensures { λ r. ⌜ r ≡ argumentsCause direction network words accepted ⌝ }
 {
     let ranged = (direction <= Registration::DIRECTION_MAX)
         & (network <= Registration::NETWORK_MAX);
-    let long = TOTALS_WORDS <= words;
+    let short = words < TOTALS_WORDS;
     if !ranged {
         return ARGUMENT_OUT_OF_RANGE;
     }
-    if !long {
+    if short {
         return TOTALS_SHORT;
     }
     ACCEPTED

@@ -1,7 +1,7 @@
 -- Word 1: what is packed is what is unpacked, and a word is well formed exactly if a registration in range has it.
 use Prim.Native.Nat.{ℕ, _+_, _*_, _/_, _%_, _^_, _≤_, _<_}
 use mathlib.Core.Path.{_≡_, refl, _∙_}
-use mathlib.Core.Bool.{Bool, true, false, cond, _&&_, _||_, and-eq-true-iff}
+use mathlib.Core.Bool.{Bool, true, false, cond, _&&_, and-eq-true-iff}
 use native.Mathlib.Nat.{div-one, mod-eq-of-lt}
 use native.Mathlib.Omega.{arith}
 use lib.Bits.{bitAnd}
@@ -49,7 +49,7 @@ module _ (r : Registration) (ok : registrationInRange r ≡ true) where
         tariff = registration-packed .tariff i;
       }
 
-  pub registration-word-lt : registrationWord r < 2 ^ 49
+  registration-word-lt : registrationWord r < 2 ^ 49
   unfolding registrationWord
   registration-word-lt = omega (arith, registration-bounds r ok)
 
@@ -60,11 +60,11 @@ module _ (r : Registration) (ok : registrationInRange r ≡ true) where
       rw (top, registration-round-trip, ok)
 
 module _ (w : ℕ) (ok : isRegistration w ≡ true) where
-  pub well-formed-lt : w < 2 ^ 49
+  well-formed-lt : w < 2 ^ 49
   unfolding isRegistration
   well-formed-lt = let k = simp and-eq-true-iff at ok in omega (arith, eqb-true)
 
-  pub well-formed-in-range : registrationInRange (registrationOf w) ≡ true
+  well-formed-in-range : registrationInRange (registrationOf w) ≡ true
   unfolding isRegistration
   well-formed-in-range = let k = simp and-eq-true-iff at ok in k .1
 

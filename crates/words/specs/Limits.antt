@@ -1,4 +1,4 @@
--- The bounds of document 01, "The book", on what the words of a row hold.
+-- The bounds of document 01, "The book", and of document 02, request 1, on what the words of a row hold.
 use Prim.Native.Nat.{ℕ}
 
 -- "MPAN, 1,000,000,000,000 to 9,999,999,999,999"

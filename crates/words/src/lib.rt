@@ -1,4 +1,5 @@
-// The words of a row. A registration and a reading are packed into a word, and taken out of it, by shifts and masks.
+// The words of a row. A registration and a reading are packed into a word, and taken out of it, by shifts and masks. Beside that, one
+// number written over the start of a slice.
 ghost use mathlib.Core.Path.{_≡_};
 ghost use mathlib.Core.Bool.{true};
 ghost use mathlib.Core.List.{_++_};

@@ -1,5 +1,5 @@
 -- `lacks_shape` meets its contract: one law for each way it ends. Assumes nothing.
-use mathlib.Core.Path.{_≡_, sym, _∙_}
+use mathlib.Core.Path.{sym, _∙_}
 use borrow.Author.Needs.{needs}
 use Rattle.cells.proofs.MissingShape.{shape-read, with-reading-lacks, not-energised-lacks, defaulted-lacks}
 use Rattle.cells.proofs.meters.lacks_shape.Statement.{statement}

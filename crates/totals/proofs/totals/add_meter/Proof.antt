@@ -11,14 +11,16 @@ use lib.Seq.{getD-set-other}
 use Rattle.words.specs.Registration.{statusOf, tariffOf}
 use Rattle.cells.specs.declared.Use.{Use}
 use Rattle.totals.specs.Totals.{totalsWords}
-use Rattle.totals.specs.Helpers.{increased, energyWord, countWord, withMeter, AddArguments}
-use Rattle.totals.proofs.OneMore.{energy-word-bound, count-word-bound}
+use Rattle.cells.specs.Helpers.{estimateOf}
+use Rattle.cells.proofs.OneMore.{estimate-few}
+use Rattle.totals.specs.Helpers.{increased, countWord, withMeter, AddArguments}
+use Rattle.totals.proofs.OneMore.{count-word-bound}
 use Rattle.totals.proofs.totals.add_meter.Statement.{statement}
 use Rattle.totals.proofs.totals.add_meter.Tie as tie
 
-module _ (totals : List ℕ) (registration : ℕ) (used : Use) (ok : AddArguments totals used) {first energy count : ℕ} (f : first ≡ 4 * tariffOf registration) (e : energy ≡ energyWord (used .source)) (d : count ≡ countWord registration) where
+module _ (totals : List ℕ) (registration : ℕ) (used : Use) (ok : AddArguments totals used) {first energy count : ℕ} (f : first ≡ 4 * tariffOf registration) (e : energy ≡ estimateOf (used .source)) (d : count ≡ countWord registration) where
   energy-place : first + energy < totalsWords
-  energy-place = omega (arith, energy-word-bound (used .source))
+  energy-place = omega (arith, estimate-few (used .source))
 
   count-place : first + count < totalsWords
   count-place = omega (arith, count-word-bound registration)
@@ -29,7 +31,7 @@ module _ (totals : List ℕ) (registration : ℕ) (used : Use) (ok : AddArgument
   -- the word that counts the meter is not the one that was changed
   count-asks : {after : List ℕ} → after ≡ increased totals (first + energy) (used .wh) → (first + count < length after) × (getD after (first + count) 0 + 1 < 2 ^ 64)
   count-asks s =
-      let other : first + count ≡ first + energy → ⊥ = λ q. omega (arith, energy-word-bound (used .source), count-word-bound registration) in
+      let other : first + count ≡ first + energy → ⊥ = λ q. omega (arith, estimate-few (used .source), count-word-bound registration) in
       rw s (
         rw length-set (omega (arith, count-place, ok .long)),
         rw (getD-set-other totals (first + energy) (first + count) (getD totals (first + energy) 0 + used .wh) 0 other) (omega (arith, ok .words-bound (first + count) count-place)),
@@ -50,7 +52,7 @@ status-requires : tie.Need-status-requires
 status-requires c κs = search needs
 
 -- the two words, whichever way the tests went
-energy-is : (c : tie.Joined2) → c .if2 .energy ≡ energyWord (c .before .before .before .before .before .before .args .meter .source)
+energy-is : (c : tie.Joined2) → c .if2 .energy ≡ estimateOf (c .before .before .before .before .before .before .args .meter .source)
 energy-is c =
     ⊎-elim
     (λ w. w .1 ∙ rw (eq-eqb _ 0 (w .0 .taken)))

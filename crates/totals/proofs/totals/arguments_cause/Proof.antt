@@ -2,7 +2,7 @@
 use mathlib.Core.Path.{_≡_}
 use mathlib.Core.Bool.{true, false, _&&_}
 use borrow.Author.Tests.{not-true, not-false}
-use lib.Dec.{leb}
+use lib.Dec.{leb, ltb}
 use Rattle.words.specs.Limits.{directionMost, networkMost}
 use Rattle.totals.specs.Totals.{totalsWords}
 use Rattle.totals.proofs.totals.arguments_cause.Statement.{statement}
@@ -18,12 +18,12 @@ returns c =
 
 returns-2 : tie.Need-returns-2
 returns-2 c =
-    let short : leb totalsWords (c .before .before .args .words) ≡ false = not-true _ (c .if2 .taken) in
+    let short : ltb (c .before .before .args .words) totalsWords ≡ true = c .if2 .taken in
     rw (in-range (c .before), short)
 
 returns-3 : tie.Need-returns-3
 returns-3 c =
-    let long : leb totalsWords (c .before .before .args .words) ≡ true = not-false _ (c .if2 .left) in
+    let long : ltb (c .before .before .args .words) totalsWords ≡ false = c .if2 .left in
     rw (in-range (c .before), long)
 
 pub arguments-cause-spec : {M : Type 1} → statement M
