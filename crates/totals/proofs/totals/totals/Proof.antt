@@ -2,6 +2,7 @@
 use Prim.Native.Nat.{_≤_}
 use mathlib.Core.Path.{_≡_, sym, _∙_}
 use mathlib.Core.Bool.{true, _&&_}
+use native.Mathlib.Omega.{arith}
 use borrow.Author.Needs.{needs}
 use borrow.Author.Tests.{not-true, not-false}
 use lib.Dec.{leb}
@@ -54,7 +55,7 @@ returns-3 c =
     way-lacks _ _ _ _ _ (formed (e .before .before)) (passed-on e .0) (passed-on e .1) (sym (c .before .any-lacks .ensures) ∙ c .if3 .taken)
 
 fill-requires : tie.Need-fill-requires
-fill-requires c κs = passed-on (tested (c .before .before .before)) .1
+fill-requires c κs = omega (arith, passed-on (tested (c .before .before .before)) .1)
 
 add-rows-requires : tie.Need-add-rows-requires
 add-rows-requires c κs =
