@@ -149,12 +149,13 @@ extern "C" {
  *    3 A3     8 E1     13 E6     18 ZE1
  *    4 AAE1   9 E2     14 E7     19 ZE2
  *
- * Codes 0 to 6 are actual, all others estimated. Code 14 is not used, and codes 17 to 20 have 0 Wh
- * only: a reading against that is refused with CEPNHOY_QUALITY_REFUSED. */
+ * Codes 0 to 6, 9 and 13 are actual, all others estimated: E2 and E6 are worked from what the meter
+ * itself has registered. Code 14 is not used, and codes 17 to 20 have 0 Wh only: a reading against
+ * that is refused with CEPNHOY_QUALITY_REFUSED. */
 
-#define CEPNHOY_QUALITY_AAE3 6 /* the last actual code */
-#define CEPNHOY_QUALITY_E2 9
-#define CEPNHOY_QUALITY_E6 13
+#define CEPNHOY_QUALITY_AAE3 6 /* the last of the actual codes that begin at 0 */
+#define CEPNHOY_QUALITY_E2 9   /* actual too */
+#define CEPNHOY_QUALITY_E6 13  /* actual too */
 #define CEPNHOY_QUALITY_E7 14
 #define CEPNHOY_QUALITY_ZE 17 /* the first and the last code that have 0 Wh only */
 #define CEPNHOY_QUALITY_ZE3 20
@@ -163,7 +164,7 @@ extern "C" {
  *
  *   energised, with a reading      the reading
  *   energised, without a reading   the load shape of its category: the meter is defaulted
- *   de-energised                   the reading if its code is actual, E2 or E6; else it is idle
+ *   de-energised                   the reading if its code is actual; else it is idle
  *   disconnected                   none: it is idle
  *
  * It counts for the additional unit if there is one, else for the base unit, and for the class

@@ -113,12 +113,16 @@ pub fn network(random: &mut Random) -> u64 {
     random.below(2) * random.below(NETWORK_MAX + 1)
 }
 
-/// Codes 0 to 13: actual ones, and estimates.
+/// The actual codes: A to AAE3, E2 and E6. And those of the estimates that stand below E6.
+const ACTUAL: [u64; 9] = [0, 1, 2, 3, 4, 5, 6, 9, 13];
+const ESTIMATED: [u64; 5] = [7, 8, 10, 11, 12];
+
+/// A tenth of the readings is estimated.
 fn reading(random: &mut Random) -> Reading {
-    let actual = random.below(10) != 0;
+    let codes: &[u64] = if random.below(10) != 0 { &ACTUAL } else { &ESTIMATED };
     Reading {
         issue: 1 + random.below(1_000),
-        quality: if actual { random.below(7) } else { 7 + random.below(7) },
+        quality: codes[random.below(codes.len() as u64) as usize],
         consumption: random.below(2_000),
     }
 }

@@ -109,7 +109,7 @@ fn check_all(options: &Options) -> Result<(), Failure> {
 fn check_books(options: &Options) -> Result<(), Failure> {
     let reach = &mut Reach::default();
     let figures = check_figures(reach)?;
-    println!("document 01, and totals worked by hand: {figures} figures agree");
+    println!("document 01, E2 and E6, and totals worked by hand: {figures} figures agree");
     for index in 0..options.books {
         check_book(options.seed, index, reach)?;
     }

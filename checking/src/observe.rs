@@ -126,16 +126,22 @@ fn note_sums(reach: &mut Reach, contents: &Contents, sums: &Sums, number: u64) {
 fn note_meters(reach: &mut Reach, contents: &Contents, sums: &Sums) {
     for ((registration, reading), &energy) in contents.meters.iter().zip(&sums.energies) {
         let quality = reading.map(|reading| reading.quality);
-        let used = energy != Energy::Idle;
+        let actual = matches!(energy, Energy::Actual(_));
+        let estimated = matches!(energy, Energy::Estimated(_));
+        let idle = energy == Energy::Idle;
         reach
             .note_if(Situation::DefaultExported, matches!(energy, Energy::Defaulted(_)) && registration.direction == 1);
         reach.note_if(Situation::ZeroReadingHeld, energy == Energy::Actual(0) && quality == Some(0));
         match (registration.status, quality) {
-            (1, Some(0..=6)) => reach.note_if(Situation::DeEnergisedActual, used),
-            (1, Some(9)) => reach.note_if(Situation::DeEnergisedE2, used),
-            (1, Some(13)) => reach.note_if(Situation::DeEnergisedE6, used),
-            (1, Some(_)) => reach.note_if(Situation::DeEnergisedOther, !used),
-            (0, Some(_)) => reach.note_if(Situation::DisconnectedRead, !used),
+            (2, Some(9)) => reach.note_if(Situation::EnergisedE2, actual),
+            (2, Some(13)) => reach.note_if(Situation::EnergisedE6, actual),
+            (2, Some(8 | 10)) => reach.note_if(Situation::EnergisedBesideE2, estimated),
+            (2, Some(12)) => reach.note_if(Situation::EnergisedBesideE6, estimated),
+            (1, Some(0..=6)) => reach.note_if(Situation::DeEnergisedActual, actual),
+            (1, Some(9)) => reach.note_if(Situation::DeEnergisedE2, actual),
+            (1, Some(13)) => reach.note_if(Situation::DeEnergisedE6, actual),
+            (1, Some(_)) => reach.note_if(Situation::DeEnergisedOther, idle),
+            (0, Some(_)) => reach.note_if(Situation::DisconnectedRead, idle),
             _ => {}
         }
     }

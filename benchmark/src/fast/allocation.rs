@@ -13,8 +13,8 @@ pub const ESTIMATED: usize = 1;
 pub const DEFAULTED: usize = 2;
 pub const IDLE: usize = 3;
 
-/// Codes that a de-energised meter uses: 0 to 6, E2 (9) and E6 (13).
-const USED_DE_ENERGISED: u32 = 0x7f | 1 << 9 | 1 << 13;
+/// The actual codes, which are also those that a de-energised meter uses: 0 to 6, E2 (9) and E6 (13).
+const ACTUAL_CODES: u32 = 0x7f | 1 << 9 | 1 << 13;
 
 struct Gathered {
     cells: [[i64; CLASSES]; UNITS],
@@ -34,12 +34,12 @@ pub fn allocate(settings: Settings, rows: &[u64], volumes: &mut [i64]) -> Alloca
 }
 
 pub fn source(registration: u64, reading: u64) -> usize {
-    let quality = reading >> 24 & 31;
-    let by_reading = if quality <= 6 { ACTUAL } else { ESTIMATED };
+    let actual = ACTUAL_CODES >> (reading >> 24 & 31) & 1 == 1;
     match registration >> 3 & 3 {
         2 if reading == 0 => DEFAULTED,
-        2 => by_reading,
-        1 if reading != 0 && USED_DE_ENERGISED >> quality & 1 == 1 => by_reading,
+        2 if actual => ACTUAL,
+        2 => ESTIMATED,
+        1 if reading != 0 && actual => ACTUAL,
         _ => IDLE,
     }
 }

@@ -24,29 +24,25 @@ pub enum Energy {
     Idle,
 }
 
-/// Codes 0 to 6.
-fn is_actual(quality: u64) -> bool {
-    quality <= 6
-}
+/// The flag of each quality code (document 01).
+const FLAGS: [&str; 21] = [
+    "A", "A1", "A2", "A3", "AAE1", "AAE2", "AAE3", "E0", "E1", "E2", "E3", "E4", "E5", "E6", "E7", "E8", "E9", "ZE",
+    "ZE1", "ZE2", "ZE3",
+];
 
-/// E2 or E6; 7 + n is En.
-fn is_e2_or_e6(quality: u64) -> bool {
-    quality == 7 + 2 || quality == 7 + 6
-}
+/// The flags under document 000's heading "Actual UTC Period Level Consumption Data and Estimates based on Actual Data", which the
+/// network code follows (document 02, request 2). They are also the ones that ECS1008 lets a de-energised meter have.
+const ACTUAL_FLAGS: [&str; 9] = ["A", "A1", "A2", "A3", "AAE1", "AAE2", "AAE3", "E2", "E6"];
 
-fn energy_read(reading: &Reading) -> Energy {
-    if is_actual(reading.quality) {
-        Energy::Actual(reading.consumption)
-    } else {
-        Energy::Estimated(reading.consumption)
-    }
+fn is_actual(reading: &Reading) -> bool {
+    ACTUAL_FLAGS.contains(&FLAGS[reading.quality as usize])
 }
 
 pub fn energy_of(registration: &Registration, reading: Option<&Reading>, shapes: &[Option<u64>; CATEGORIES]) -> Energy {
     match (registration.status, reading) {
-        (2, Some(reading)) => energy_read(reading),
+        (1 | 2, Some(reading)) if is_actual(reading) => Energy::Actual(reading.consumption),
+        (2, Some(reading)) => Energy::Estimated(reading.consumption),
         (2, None) => Energy::Defaulted(shapes[registration.category as usize]),
-        (1, Some(r)) if is_actual(r.quality) || is_e2_or_e6(r.quality) => energy_read(r),
         _ => Energy::Idle,
     }
 }
@@ -66,6 +62,10 @@ pub fn is_loss(class: usize) -> bool {
 
 pub fn is_export(class: usize) -> bool {
     class / 4 % 2 == 1
+}
+
+pub fn is_estimate(class: usize) -> bool {
+    class / 2 % 2 == 1
 }
 
 /// The unit and the consumption class that a meter's energy goes to, and the energy in Wh; none if there is none.

@@ -18,14 +18,18 @@ const ENERGISED: u64 = 2;
 const CODE_A: u64 = 0;
 const CODE_E0: u64 = 7;
 const CODE_E2: u64 = 9;
+const CODE_E6: u64 = 13;
 
 /// Direction, status, network, tariff, and the reading's quality and Wh if there is one. The shape of all is 40 Wh.
 type Meter = (u64, u64, u64, u64, Option<(u64, u64)>);
 
-const METERS: [Meter; 9] = [
+const METERS: [Meter; 12] = [
     (IMPORT, ENERGISED, 7, 5, Some((CODE_A, 1_000))),
     (IMPORT, ENERGISED, 7, 5, None),
+    (IMPORT, ENERGISED, 7, 5, Some((CODE_E2, 20))),
+    (IMPORT, ENERGISED, 7, 5, Some((CODE_E6, 300))),
     (IMPORT, DE_ENERGISED, 7, 5, Some((CODE_E2, 9))),
+    (IMPORT, DE_ENERGISED, 7, 5, Some((CODE_E6, 4_000))),
     (IMPORT, DE_ENERGISED, 7, 5, Some((CODE_A, 3))),
     (IMPORT, DE_ENERGISED, 7, 5, Some((CODE_E0, 500))),
     (IMPORT, DISCONNECTED, 7, 5, Some((CODE_A, 11))),
@@ -39,7 +43,7 @@ type Charged = (usize, [u64; 4]);
 
 /// Direction and network, and the tariffs with their words.
 const FIGURES: [(u64, u64, &[Charged]); 4] = [
-    (IMPORT, 7, &[(5, [1_003, 49, 2, 2]), (1_023, [0, 0, 1, 0])]),
+    (IMPORT, 7, &[(5, [5_332, 40, 4, 3]), (1_023, [0, 0, 1, 0])]),
     (EXPORT, 7, &[(5, [400, 0, 1, 0])]),
     (IMPORT, 0, &[(5, [0, 70, 1, 0])]),
     (EXPORT, 0, &[]),

@@ -54,15 +54,19 @@ fn note_words(reach: &mut Reach, contents: &Contents, words: &[u64]) {
 
 /// Notes what meters the totals are of.
 fn note_meters(reach: &mut Reach, contents: &Contents, asked: &Asked) {
-    for (registration, energy) in energies(contents).filter(|(r, _)| asked.is_of(r)) {
-        let situation = match (energy, registration.status) {
-            (Energy::Idle, _) => Situation::TotalsIdle,
-            (Energy::Actual(0) | Energy::Estimated(0) | Energy::Defaulted(Some(0)), _) => Situation::TotalsNoWh,
-            (Energy::Actual(_), 1) => Situation::TotalsDeEnergisedActual,
-            (Energy::Actual(_), _) => Situation::TotalsActual,
-            (Energy::Estimated(_), 1) => Situation::TotalsDeEnergisedOther,
-            (Energy::Estimated(_), _) => Situation::TotalsEstimated,
-            (Energy::Defaulted(_), _) => Situation::TotalsDefaulted,
+    let readings = contents.meters.iter().map(|(_, reading)| reading.map(|reading| reading.quality));
+    for ((registration, energy), quality) in energies(contents).zip(readings).filter(|((r, _), _)| asked.is_of(r)) {
+        let situation = match (energy, registration.status, quality) {
+            (Energy::Idle, _, _) => Situation::TotalsIdle,
+            (Energy::Actual(0) | Energy::Estimated(0) | Energy::Defaulted(Some(0)), _, _) => Situation::TotalsNoWh,
+            (Energy::Actual(_), 1, Some(9)) => Situation::TotalsDeEnergisedE2,
+            (Energy::Actual(_), 1, Some(13)) => Situation::TotalsDeEnergisedE6,
+            (Energy::Actual(_), 1, _) => Situation::TotalsDeEnergised,
+            (Energy::Actual(_), _, Some(9)) => Situation::TotalsE2,
+            (Energy::Actual(_), _, Some(13)) => Situation::TotalsE6,
+            (Energy::Actual(_), _, _) => Situation::TotalsActual,
+            (Energy::Estimated(_), _, _) => Situation::TotalsEstimated,
+            (Energy::Defaulted(_), _, _) => Situation::TotalsDefaulted,
         };
         reach.note(situation);
     }

@@ -3,7 +3,7 @@
 use super::{check_totals, random_asked};
 use crate::compare::{at, same, same_allocated, same_words, Checked, Failure};
 use crate::lent::Lent;
-use crate::model::allocation::{is_export, is_loss, Cells, Sums};
+use crate::model::allocation::{is_estimate, is_export, is_loss, Cells, Sums};
 use crate::model::totals::WORDS;
 use crate::model::words::{registration_of, registration_word};
 use crate::model::Book;
@@ -29,14 +29,20 @@ fn added_up(lent: &mut Lent, direction: u64) -> Result<[u128; 4], Failure> {
     Ok(sums)
 }
 
-/// The sum of a direction's consumption cells, in Wh.
-fn consumption_wh(cells: &Cells, direction: u64) -> u128 {
+/// The sum of a direction's consumption cells, in Wh, with e = 0 and with e = 1.
+fn consumption_wh(cells: &Cells, direction: u64) -> [u128; 2] {
     let wanted = cells.iter().filter(|((_, class), _)| !is_loss(*class) && is_export(*class) == (direction == 1));
-    wanted.map(|(_, thousandths)| u128::try_from(thousandths / 1_000).expect("consumption is at least 0")).sum()
+    let mut sums = [0; 2];
+    for ((_, class), thousandths) in wanted {
+        sums[usize::from(is_estimate(*class))] +=
+            u128::try_from(thousandths / 1_000).expect("consumption is at least 0");
+    }
+    sums
 }
 
-/// Actual and other Wh over all tariffs and networks are the sum of the direction's consumption cells; the meters counted are those
-/// that an accepted allocation counts as actual, estimated or defaulted. If a shape is lacking, all totals are refused.
+/// Actual Wh over all tariffs and networks are the sum of the direction's consumption cells with e = 0, and other Wh of those with
+/// e = 1; the meters counted are those that an accepted allocation counts as actual, estimated or defaulted. If a shape is lacking,
+/// all totals are refused.
 pub fn check_sums(lent: &mut Lent, book: &Book, reach: &mut Reach) -> Checked {
     let sums = Sums::of(&book.contents());
     if sums.lacks_shape() {
@@ -45,8 +51,9 @@ pub fn check_sums(lent: &mut Lent, book: &Book, reach: &mut Reach) -> Checked {
     let mut meters = 0;
     for direction in 0..2 {
         let [actual, other, energised, de_energised] = added_up(lent, direction)?;
-        let what = format!("actual and other Wh of direction {direction} over all totals, against its cells");
-        same(&what, actual + other, consumption_wh(&sums.cells, direction))?;
+        let [with_e_0, with_e_1] = consumption_wh(&sums.cells, direction);
+        same(&format!("actual Wh of direction {direction} over all totals, against its cells"), actual, with_e_0)?;
+        same(&format!("other Wh of direction {direction} over all totals, against its cells"), other, with_e_1)?;
         reach.note_if(Situation::TotalsSummed, actual > 0 && other > 0);
         meters += energised + de_energised;
     }

@@ -5,11 +5,11 @@ use mathlib.Core.List.{List, [], _∷_}
 use lib.Dec.{eqb}
 use lib.ListN.{getD}
 use Rattle.words.specs.Registration.{statusOf, categoryOf}
-use Rattle.words.specs.Reading.{noReading, consumptionOf, qualityOf, isActual, isE2orE6}
+use Rattle.words.specs.Reading.{noReading, consumptionOf, qualityOf, isActual}
 use Rattle.book.specs.Limits.{shapeMissing}
 use Rattle.book.specs.Rows.{Row}
 
--- where the energy of a meter comes from, as the four counts have it: "actual (used code 0–6), estimated (used code 7 or more), defaulted, idle"
+-- where the energy of a meter comes from, as the four counts have it: "actual [..], estimated [..], defaulted, idle"
 pub data Source : Type 0 where
   actualReading : Source
   estimatedReading : Source
@@ -23,13 +23,13 @@ deEnergised = 1
 abbrev pub energised : ℕ
 energised = 2
 
--- a reading in use, by its code: "e is 0 for codes 0–6 and 1 for every other code"
+-- a reading in use, by its code: "e is 0 for codes 0–6 and 1 for every other code", and document 02, request 2, of E2 and E6: "e becomes 0 for them, they count as actual"
 unfoldable pub readingSource : ℕ → Source
 readingSource word = cond (isActual (qualityOf word)) actualReading estimatedReading
 
 -- "de-energised, its reading if the code is 0–6, E2 or E6, else none"
 unfoldable pub usedDeEnergised : ℕ → Bool
-usedDeEnergised word = not (eqb word noReading) && (isActual (qualityOf word) || isE2orE6 (qualityOf word))
+usedDeEnergised word = not (eqb word noReading) && isActual (qualityOf word)
 
 -- "energised with a reading, that reading; energised without, the shape of its category (defaulted); de-energised, its reading if [..]; disconnected, none. "None" is idle": of a meter's registration and reading words
 unfoldable pub sourceOf : ℕ → ℕ → Source
@@ -71,7 +71,7 @@ unfoldable pub anyLacksShape : List ℕ → List Row → Bool
 anyLacksShape shapes [] = false
 anyLacksShape shapes (r ∷ meters) = lacksShape shapes (r .registration) (r .reading) || anyLacksShape shapes meters
 
--- "four counts: actual (used code 0–6), estimated (used code 7 or more), defaulted, idle"
+-- "four counts: actual (used code 0–6), estimated (used code 7 or more), defaulted, idle", with E2 and E6 among the actual (request 2)
 pub record Counts : Type 0 where
   pub actual : ℕ
   pub estimated : ℕ

@@ -33,12 +33,11 @@ fn reading_source(reading: u64) -> u64
     }
 }
 
-// Whether a de-energised meter uses its reading.
+// Whether a de-energised meter uses its reading: if there is one and its code is actual.
 fn used_de_energised(reading: u64) -> bool
     ensures { λ r. ⌜ r ≡ usedDeEnergised reading ⌝ }
 {
-    let quality = words::quality(reading);
-    (reading != words::NO_READING) & (words::is_actual(quality) | words::is_e2_or_e6(quality))
+    (reading != words::NO_READING) & words::is_actual(words::quality(reading))
 }
 
 // Where a meter's energy comes from.

@@ -1,6 +1,6 @@
--- "Figures to hold it against": cases 1 to 10, as a table of the definitions.
+-- "Figures to hold it against": cases 1 to 10, as a table of the definitions, and after them the cases of document 02.
 use Prim.Native.Nat.{ℕ, zero, suc}
-use mathlib.Core.Bool.{Bool, true, _&&_}
+use mathlib.Core.Bool.{Bool, true, false, _&&_}
 use mathlib.Core.List.{List, [], _∷_, _++_}
 use lib.Dec.{eqb}
 use lib.IntN.{ℤ, pos, negℤ, natAbs, _-ℤ_}
@@ -12,7 +12,9 @@ use Rattle.book.specs.Book.{Book, freshBook, usedRows}
 use Rattle.calls.specs.declared.Call.{Call}
 use Rattle.calls.specs.declared.Call.the-variants.{Register, Record, Set}
 use Rattle.calls.specs.Calls.{bookAfter, numbersGiven}
+use Rattle.cells.specs.Energy.{deEnergised, energised}
 use Rattle.cells.specs.Cells.{cell}
+use Rattle.totals.specs.Totals.{tariffTotals}
 use Rattle.correction.specs.Volumes.{volumesOf}
 use Rattle.allocation.specs.declared.Allocated.{Allocated}
 use Rattle.allocation.specs.Allocate.{allUnitSums, Allocation, metersCause, figuresOf, refusedWith, allocateCall}
@@ -31,6 +33,10 @@ pub data Figure : Type 0 where
   -- U and W
   unallocatedIs : ℤ → Figure
   weightedIs : ℤ → Figure
+  -- the four counts: actual, estimated, defaulted, idle
+  countsAre : List ℕ → Figure
+  -- the four totals of import, embedded network 0 and tariff 0: actual Wh, other Wh, energised and de-energised meters
+  totalsAre : List ℕ → Figure
 
 -- a case: its calls, and the figures after them
 pub record Case : Type 0 where
@@ -39,6 +45,12 @@ pub record Case : Type 0 where
 
 unfoldable pub same : ℤ → ℤ → Bool
 same x y = eqb (natAbs (x -ℤ y)) 0
+
+unfoldable pub sameNumbers : List ℕ → List ℕ → Bool
+sameNumbers [] [] = true
+sameNumbers [] (y ∷ ys) = false
+sameNumbers (x ∷ xs) [] = false
+sameNumbers (x ∷ xs) (y ∷ ys) = eqb x y && sameNumbers xs ys
 
 -- what a case is held against: the numbers that its calls gave, the shapes and the meters, the allocation's answer and its volumes
 pub record Worked : Type 0 where
@@ -55,6 +67,9 @@ figureHolds x (volumeIs unit wh) = same (getD (x .volumes) unit (pos 0)) wh
 figureHolds x (cellIs unit class wh) = same (cell (x .shapes) (x .meters) unit class) wh
 figureHolds x (unallocatedIs u) = same (x .answer .unallocated) u
 figureHolds x (weightedIs w) = same (x .answer .weighted) w
+figureHolds x (countsAre counts) =
+    sameNumbers (x .answer .actual ∷ x .answer .estimated ∷ x .answer .defaulted ∷ x .answer .idle ∷ []) counts
+figureHolds x (totalsAre totals) = sameNumbers (tariffTotals (x .shapes) (x .meters) 0 0 0) totals
 
 unfoldable pub figuresHold : Worked → List Figure → Bool
 figuresHold x [] = true
@@ -107,14 +122,14 @@ unfoldable pub casesHold : List Case → Bool
 casesHold [] = true
 casesHold (x ∷ cases) = holds x && casesHold cases
 
--- an energised meter of a base unit, by segment, direction and LLF
-abbrev pub meter : ℕ → ℕ → ℕ → ℕ → ℕ → Call
-meter mpan segment direction base llf =
+-- a meter of a base unit, by status, segment, direction and LLF
+abbrev pub meterOf : ℕ → ℕ → ℕ → ℕ → ℕ → ℕ → Call
+meterOf status mpan segment direction base llf =
     Register mpan
     (record {
       segment = segment;
       direction = direction;
-      status = 2;
+      status = status;
       base = base;
       flag = 0;
       additional = 0;
@@ -124,9 +139,17 @@ meter mpan segment direction base llf =
       tariff = 0;
     })
 
--- a reading of code 0 and issue 1
+-- an energised one
+abbrev pub meter : ℕ → ℕ → ℕ → ℕ → ℕ → Call
+meter mpan segment direction base llf = meterOf energised mpan segment direction base llf
+
+-- a reading of issue 1, by its code
+abbrev pub readingOfCode : ℕ → ℕ → ℕ → Call
+readingOfCode code mpan wh = Record mpan (record { issue = 1; quality = code; consumption = wh })
+
+-- one of code 0
 abbrev pub actual : ℕ → ℕ → Call
-actual mpan wh = Record mpan (record { issue = 1; quality = 0; consumption = wh })
+actual mpan wh = readingOfCode 0 mpan wh
 
 -- "weights 8, 9 at 1,000"
 abbrev pub weights : List Call
@@ -198,3 +221,65 @@ cases =
       figures = callGives 1 0 ∷ callGives 2 5 ∷ cellIs 0 8 (pos 100) ∷ [];
     }
     ∷ []
+
+-- document 02, request 2. Two smart import meters of one status. Unit 0: 100 Wh of the code, LLF 1,050. Unit 1: 40 Wh of code 10 (E3), LLF 1,000
+abbrev pub meterOfCode : (status code : ℕ) → ℤ → List Call
+meterOfCode status code takeWh =
+    weights
+    ++ Set (GroupTake takeWh)
+    ∷ meterOf status 1200000000002 1 0 0 1050
+    ∷ meterOf status 1300000000007 1 0 1 1000
+    ∷ readingOfCode code 1200000000002 100
+    ∷ readingOfCode 10 1300000000007 40
+    ∷ []
+
+-- energised, Take 146: the code's Wh are in class 8 and actual, those of E3 in class 10 and other
+abbrev pub energisedFigures : List Figure
+energisedFigures =
+    allocationGives 0
+    ∷ countsAre (1 ∷ 1 ∷ 0 ∷ 0 ∷ [])
+    ∷ cellIs 0 8 (pos 100)
+    ∷ cellIs 0 9 (pos 5)
+    ∷ cellIs 0 10 (pos 0)
+    ∷ cellIs 0 11 (pos 0)
+    ∷ cellIs 1 10 (pos 40)
+    ∷ unallocatedIs (pos 1)
+    ∷ weightedIs (pos 105000)
+    ∷ volumeIs 0 (pos 106)
+    ∷ volumeIs 1 (pos 40)
+    ∷ totalsAre (100 ∷ 40 ∷ 2 ∷ 0 ∷ [])
+    ∷ []
+
+-- de-energised, Take 106: the same of the code, and the meter with E3 is idle
+abbrev pub deEnergisedFigures : List Figure
+deEnergisedFigures =
+    allocationGives 0
+    ∷ countsAre (1 ∷ 0 ∷ 0 ∷ 1 ∷ [])
+    ∷ cellIs 0 8 (pos 100)
+    ∷ cellIs 0 9 (pos 5)
+    ∷ cellIs 0 10 (pos 0)
+    ∷ cellIs 0 11 (pos 0)
+    ∷ cellIs 1 10 (pos 0)
+    ∷ unallocatedIs (pos 1)
+    ∷ weightedIs (pos 105000)
+    ∷ volumeIs 0 (pos 106)
+    ∷ volumeIs 1 (pos 0)
+    ∷ totalsAre (100 ∷ 0 ∷ 0 ∷ 1 ∷ [])
+    ∷ []
+
+-- "E2 and E6 join the actuals": 7 + 2 is E2 and 7 + 6 is E6
+unfoldable pub codeCases : List Case
+codeCases =
+    -- 11: E2, energised
+    record { calls = meterOfCode energised 9 (pos 146); figures = energisedFigures }
+    -- 12: E2, de-energised
+    ∷ record { calls = meterOfCode deEnergised 9 (pos 106); figures = deEnergisedFigures }
+    -- 13: E6, energised
+    ∷ record { calls = meterOfCode energised 13 (pos 146); figures = energisedFigures }
+    -- 14: E6, de-energised
+    ∷ record { calls = meterOfCode deEnergised 13 (pos 106); figures = deEnergisedFigures }
+    ∷ []
+
+-- the table of worked figures
+abbrev pub workedCases : List Case
+workedCases = cases ++ codeCases

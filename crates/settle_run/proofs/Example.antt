@@ -6,7 +6,7 @@ use Rattle.integers.specs.Quotient.{floorOf, fractionOf}
 use Rattle.integers.specs.Rounding.{nearestWh}
 use Rattle.integers.specs.Sum.{sum}
 use Rattle.words.specs.Mpan.{isMpan}
-use Rattle.words.specs.Reading.{readingOf, readingWord, isActual, isE2orE6, qualityAllowed, readingInRange, isReading}
+use Rattle.words.specs.Reading.{readingOf, readingWord, isActual, qualityAllowed, readingInRange, isReading}
 use Rattle.words.specs.Registration.{registrationOf, registrationWord, registrationInRange, isRegistration, unitOf}
 use Rattle.book.specs.Book.{usedRows, wellFormed}
 use Rattle.book.specs.Settings.{withSetting, settingCause, takeFormed, allOf, settingsFormed}
@@ -28,9 +28,9 @@ use Rattle.settle_run.specs.Program.{endLine, takeByte, takeBytes, takeR
 use Rattle.settle_run.specs.Example.{caseOneInput, badInput, badText}
 
 pub case-one-prints : settleText (replicate 9 0) (joined caseOneInput) ≡ joined caseOneText
-unfolding floorOf fractionOf nearestWh sum isMpan readingOf readingWord isActual isE2orE6 qualityAllowed readingInRange isReading registrationOf registrationWord registrationInRange isRegistration unitOf usedRows wellFormed outcome withSetting settingCause hasNoRoom registrationCause readingCause causeAfterTest callCause bookMade callOutcome capacity rowsOf wordsOf written rowsFormed isKnown issueHeld withRegistration withReading takeFormed allOf settingsFormed exceedsTolerance sumsCause metersCause allocationCause figuresOf withVolumes allocationOutcome allocateCall estimateBit consumptionClass inCell sumOver consumptionCell lossCell cell countFrom cellsOf netOf weightedOf unitSums allUnitSums unallocatedOf weightedTotal shareNumerator shareFloor shareFraction readingSource usedDeEnergised sourceOf shapeWh energyFrom energyWh lacksShapeFrom anyLacksShape countFor countsOf countBefore extraWh roundedVolumes lackingWh volumesFrom volumesOf startsWith fieldCount beforeComma afterComma field numberAt additionalOf additionalAt takeLine toleranceLine weightLine shapeLine registrationAt meterLine readingLine keyedLine lineOf lineAfter lineOutcome allDigits valueAfter digitsOf numberOf signedOf joined valueLine signedLine refusedLine countLines figureLines volumeLine volumeLines allocationText digitsWithin decimal signedDecimal endLine takeByte takeBytes takeRead endInput closingText endText settleText
+unfolding floorOf fractionOf nearestWh sum isMpan readingOf readingWord isActual qualityAllowed readingInRange isReading registrationOf registrationWord registrationInRange isRegistration unitOf usedRows wellFormed outcome withSetting settingCause hasNoRoom registrationCause readingCause causeAfterTest callCause bookMade callOutcome capacity rowsOf wordsOf written rowsFormed isKnown issueHeld withRegistration withReading takeFormed allOf settingsFormed exceedsTolerance sumsCause metersCause allocationCause figuresOf withVolumes allocationOutcome allocateCall estimateBit consumptionClass inCell sumOver consumptionCell lossCell cell countFrom cellsOf netOf weightedOf unitSums allUnitSums unallocatedOf weightedTotal shareNumerator shareFloor shareFraction readingSource usedDeEnergised sourceOf shapeWh energyFrom energyWh lacksShapeFrom anyLacksShape countFor countsOf countBefore extraWh roundedVolumes lackingWh volumesFrom volumesOf startsWith fieldCount beforeComma afterComma field numberAt additionalOf additionalAt takeLine toleranceLine weightLine shapeLine registrationAt meterLine readingLine keyedLine lineOf lineAfter lineOutcome allDigits valueAfter digitsOf numberOf signedOf joined valueLine signedLine refusedLine countLines figureLines volumeLine volumeLines allocationText digitsWithin decimal signedDecimal endLine takeByte takeBytes takeRead endInput closingText endText settleText
 case-one-prints = refl
 
 pub bad-lines-print : settleText (replicate 9 0) (joined badInput) ≡ joined badText
-unfolding floorOf fractionOf nearestWh sum isMpan readingOf readingWord isActual isE2orE6 qualityAllowed readingInRange isReading registrationOf registrationWord registrationInRange isRegistration unitOf usedRows wellFormed outcome withSetting settingCause hasNoRoom registrationCause readingCause causeAfterTest callCause bookMade callOutcome capacity rowsOf wordsOf written rowsFormed isKnown issueHeld withRegistration withReading takeFormed allOf settingsFormed exceedsTolerance sumsCause metersCause allocationCause figuresOf withVolumes allocationOutcome allocateCall estimateBit consumptionClass inCell sumOver consumptionCell lossCell cell countFrom cellsOf netOf weightedOf unitSums allUnitSums unallocatedOf weightedTotal shareNumerator shareFloor shareFraction readingSource usedDeEnergised sourceOf shapeWh energyFrom energyWh lacksShapeFrom anyLacksShape countFor countsOf countBefore extraWh roundedVolumes lackingWh volumesFrom volumesOf startsWith fieldCount beforeComma afterComma field numberAt additionalOf additionalAt takeLine toleranceLine weightLine shapeLine registrationAt meterLine readingLine keyedLine lineOf lineAfter lineOutcome allDigits valueAfter digitsOf numberOf signedOf joined valueLine signedLine refusedLine countLines figureLines volumeLine volumeLines allocationText digitsWithin decimal signedDecimal endLine takeByte takeBytes takeRead endInput closingText endText settleText
+unfolding floorOf fractionOf nearestWh sum isMpan readingOf readingWord isActual qualityAllowed readingInRange isReading registrationOf registrationWord registrationInRange isRegistration unitOf usedRows wellFormed outcome withSetting settingCause hasNoRoom registrationCause readingCause causeAfterTest callCause bookMade callOutcome capacity rowsOf wordsOf written rowsFormed isKnown issueHeld withRegistration withReading takeFormed allOf settingsFormed exceedsTolerance sumsCause metersCause allocationCause figuresOf withVolumes allocationOutcome allocateCall estimateBit consumptionClass inCell sumOver consumptionCell lossCell cell countFrom cellsOf netOf weightedOf unitSums allUnitSums unallocatedOf weightedTotal shareNumerator shareFloor shareFraction readingSource usedDeEnergised sourceOf shapeWh energyFrom energyWh lacksShapeFrom anyLacksShape countFor countsOf countBefore extraWh roundedVolumes lackingWh volumesFrom volumesOf startsWith fieldCount beforeComma afterComma field numberAt additionalOf additionalAt takeLine toleranceLine weightLine shapeLine registrationAt meterLine readingLine keyedLine lineOf lineAfter lineOutcome allDigits valueAfter digitsOf numberOf signedOf joined valueLine signedLine refusedLine countLines figureLines volumeLine volumeLines allocationText digitsWithin decimal signedDecimal endLine takeByte takeBytes takeRead endInput closingText endText settleText
 bad-lines-print = refl

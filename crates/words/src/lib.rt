@@ -8,7 +8,7 @@ ghost use lib.ListN.{length, drop, replicate};
 ghost use Rattle.words.specs.Limits.{directionMost, networkMost};
 ghost use Rattle.words.specs.Mpan.{isMpan};
 ghost use Rattle.words.specs.Registration.{bitField, segmentOf, directionOf, statusOf, categoryOf, llfOf, networkOf, tariffOf, unitOf, registrationOf, registrationWord, registrationInRange, isRegistration};
-ghost use Rattle.words.specs.Reading.{consumptionOf, qualityOf, issueOf, readingOf, readingWord, readingInRange, qualityAllowed, isActual, isE2orE6, isReading};
+ghost use Rattle.words.specs.Reading.{consumptionOf, qualityOf, issueOf, readingOf, readingWord, readingInRange, qualityAllowed, isActual, isReading};
 
 pub const MPAN_MIN: u64 = 1_000_000_000_000;
 
@@ -266,18 +266,11 @@ pub fn issue(w: u64) -> u64
     bits(w, 32, 32)
 }
 
-// Whether the code q is one of A to AAE3.
+// Whether the code q is actual: one of A to AAE3, or E2 or E6.
 pub fn is_actual(q: u64) -> bool
     ensures { λ r. ⌜ r ≡ isActual q ⌝ }
 {
-    q <= Reading::QUALITY_AAE3
-}
-
-// Whether the code q is one of the two estimates that a de-energised meter may use.
-pub fn is_e2_or_e6(q: u64) -> bool
-    ensures { λ r. ⌜ r ≡ isE2orE6 q ⌝ }
-{
-    (q == Reading::QUALITY_E2) | (q == Reading::QUALITY_E6)
+    (q <= Reading::QUALITY_AAE3) | (q == Reading::QUALITY_E2) | (q == Reading::QUALITY_E6)
 }
 
 impl Reading {
@@ -289,7 +282,7 @@ impl Reading {
 
     pub const ISSUE_MAX: u64 = 4_294_967_295;
 
-    // Quality codes: the last of the actual ones, three of the estimates, and the first and the last ZE.
+    // Quality codes: the last of A to AAE3, three of E0 to E9, and the first and the last ZE.
     pub const QUALITY_AAE3: u64 = 6;
 
     pub const QUALITY_E2: u64 = 9;

@@ -10,14 +10,10 @@ quality-requires c κs = search needs
 is-actual-requires : tie.Need-is-actual-requires
 is-actual-requires c κs = search needs
 
-is-e2-or-e6-requires : tie.Need-is-e2-or-e6-requires
-is-e2-or-e6-requires c κs = search needs
-
 returns : tie.Need-returns
 unfolding usedDeEnergised
 returns c =
-    rw (c .is-e2-or-e6 .ensures, c .before .is-actual .ensures, c .before .before .quality .ensures)
+    rw (c .is-actual .ensures, c .before .quality .ensures)
 
 pub used-de-energised-spec : {M : Type 1} → statement M
-used-de-energised-spec =
-    tie.close (tie.spec quality-requires is-actual-requires is-e2-or-e6-requires returns)
+used-de-energised-spec = tie.close (tie.spec quality-requires is-actual-requires returns)
