@@ -223,8 +223,8 @@ cases =
     ∷ []
 
 -- document 02, request 2. Two smart import meters of one status. Unit 0: 100 Wh of the code, LLF 1,050. Unit 1: 40 Wh of code 10 (E3), LLF 1,000
-abbrev pub meterOfCode : (status code : ℕ) → ℤ → List Call
-meterOfCode status code takeWh =
+abbrev pub metersOfCode : (status code : ℕ) → ℤ → List Call
+metersOfCode status code takeWh =
     weights
     ++ Set (GroupTake takeWh)
     ∷ meterOf status 1200000000002 1 0 0 1050
@@ -233,37 +233,36 @@ meterOfCode status code takeWh =
     ∷ readingOfCode 10 1300000000007 40
     ∷ []
 
--- energised, Take 146: the code's Wh are in class 8 and actual, those of E3 in class 10 and other
-abbrev pub energisedFigures : List Figure
-energisedFigures =
+-- the code's Wh and its losses are in classes 8 and 9, and none in 10 and 11: U 1, W 105,000, and 106 Wh
+abbrev pub actualFigures : List Figure
+actualFigures =
     allocationGives 0
-    ∷ countsAre (1 ∷ 1 ∷ 0 ∷ 0 ∷ [])
     ∷ cellIs 0 8 (pos 100)
     ∷ cellIs 0 9 (pos 5)
     ∷ cellIs 0 10 (pos 0)
     ∷ cellIs 0 11 (pos 0)
-    ∷ cellIs 1 10 (pos 40)
     ∷ unallocatedIs (pos 1)
     ∷ weightedIs (pos 105000)
     ∷ volumeIs 0 (pos 106)
+    ∷ []
+
+-- energised, Take 146: E3 is estimated, in class 10 and with the other Wh
+abbrev pub energisedFigures : List Figure
+energisedFigures =
+    actualFigures
+    ++ cellIs 1 10 (pos 40)
     ∷ volumeIs 1 (pos 40)
+    ∷ countsAre (1 ∷ 1 ∷ 0 ∷ 0 ∷ [])
     ∷ totalsAre (100 ∷ 40 ∷ 2 ∷ 0 ∷ [])
     ∷ []
 
--- de-energised, Take 106: the same of the code, and the meter with E3 is idle
+-- de-energised, Take 106: the meter with E3 is idle
 abbrev pub deEnergisedFigures : List Figure
 deEnergisedFigures =
-    allocationGives 0
-    ∷ countsAre (1 ∷ 0 ∷ 0 ∷ 1 ∷ [])
-    ∷ cellIs 0 8 (pos 100)
-    ∷ cellIs 0 9 (pos 5)
-    ∷ cellIs 0 10 (pos 0)
-    ∷ cellIs 0 11 (pos 0)
-    ∷ cellIs 1 10 (pos 0)
-    ∷ unallocatedIs (pos 1)
-    ∷ weightedIs (pos 105000)
-    ∷ volumeIs 0 (pos 106)
+    actualFigures
+    ++ cellIs 1 10 (pos 0)
     ∷ volumeIs 1 (pos 0)
+    ∷ countsAre (1 ∷ 0 ∷ 0 ∷ 1 ∷ [])
     ∷ totalsAre (100 ∷ 0 ∷ 0 ∷ 1 ∷ [])
     ∷ []
 
@@ -271,13 +270,13 @@ deEnergisedFigures =
 unfoldable pub codeCases : List Case
 codeCases =
     -- 11: E2, energised
-    record { calls = meterOfCode energised 9 (pos 146); figures = energisedFigures }
+    record { calls = metersOfCode energised 9 (pos 146); figures = energisedFigures }
     -- 12: E2, de-energised
-    ∷ record { calls = meterOfCode deEnergised 9 (pos 106); figures = deEnergisedFigures }
+    ∷ record { calls = metersOfCode deEnergised 9 (pos 106); figures = deEnergisedFigures }
     -- 13: E6, energised
-    ∷ record { calls = meterOfCode energised 13 (pos 146); figures = energisedFigures }
+    ∷ record { calls = metersOfCode energised 13 (pos 146); figures = energisedFigures }
     -- 14: E6, de-energised
-    ∷ record { calls = meterOfCode deEnergised 13 (pos 106); figures = deEnergisedFigures }
+    ∷ record { calls = metersOfCode deEnergised 13 (pos 106); figures = deEnergisedFigures }
     ∷ []
 
 -- the table of worked figures

@@ -1,4 +1,4 @@
--- What a list of calls means, demand 3 over it, document 01's ten cases, and that an allocation ignores networks and tariffs.
+-- What a list of calls means, demand 3 over it, the worked cases, and that an allocation ignores networks and tariffs.
 pub mod Meaning
 pub mod Moves
 pub mod Demand

@@ -1,4 +1,4 @@
--- `words::is_actual` meets its contract: its tests are those of the definition.
+-- `words::is_actual` meets its contract: its test is that of the definition.
 use mathlib.Core.Path.{refl}
 use Rattle.words.specs.Reading.{isActual}
 use Rattle.words.proofs.is_actual.Statement.{statement}
