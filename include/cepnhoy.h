@@ -149,13 +149,13 @@ extern "C" {
  *    3 A3     8 E1     13 E6     18 ZE1
  *    4 AAE1   9 E2     14 E7     19 ZE2
  *
- * Codes 0 to 6, 9 and 13 are actual, all others estimated: E2 and E6 are worked from what the meter
- * itself has registered. Code 14 is not used, and codes 17 to 20 have 0 Wh only: a reading against
- * that is refused with CEPNHOY_QUALITY_REFUSED. */
+ * Codes 0 to 6, 9 and 13 are actual, all others estimated. (E2 and E6 are estimates too, but from the
+ * meter's own register reads, daily advances or daily consumption.) Code 14 is not used, and codes 17
+ * to 20 have 0 Wh only: a reading against that is refused with CEPNHOY_QUALITY_REFUSED. */
 
-#define CEPNHOY_QUALITY_AAE3 6 /* the last of the actual codes that begin at 0 */
-#define CEPNHOY_QUALITY_E2 9   /* actual too */
-#define CEPNHOY_QUALITY_E6 13  /* actual too */
+#define CEPNHOY_QUALITY_AAE3 6 /* the last of codes 0 to 6, A to AAE3 */
+#define CEPNHOY_QUALITY_E2 9   /* actual, as codes 0 to 6 are */
+#define CEPNHOY_QUALITY_E6 13  /* actual, as codes 0 to 6 are */
 #define CEPNHOY_QUALITY_E7 14
 #define CEPNHOY_QUALITY_ZE 17 /* the first and the last code that have 0 Wh only */
 #define CEPNHOY_QUALITY_ZE3 20

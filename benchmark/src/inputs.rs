@@ -113,8 +113,9 @@ pub fn network(random: &mut Random) -> u64 {
     random.below(2) * random.below(NETWORK_MAX + 1)
 }
 
-/// The actual codes: A to AAE3, E2 and E6. And those of the estimates that stand below E6.
+/// A to AAE3, E2 and E6.
 const ACTUAL: [u64; 9] = [0, 1, 2, 3, 4, 5, 6, 9, 13];
+/// E0, E1 and E3 to E5: rare codes are not timed.
 const ESTIMATED: [u64; 5] = [7, 8, 10, 11, 12];
 
 /// A tenth of the readings is estimated.

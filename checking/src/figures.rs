@@ -26,8 +26,9 @@ const IMPORT: u64 = 0;
 const EXPORT: u64 = 1;
 const CODE_A: u64 = 0;
 const CODE_E0: u64 = 7;
+const CODE_E1: u64 = 8;
 const CODE_E2: u64 = 9;
-const CODE_E3: u64 = 10;
+const CODE_E5: u64 = 12;
 const CODE_E6: u64 = 13;
 const DE_ENERGISED: u64 = 1;
 const ENERGISED: u64 = 2;
@@ -127,29 +128,29 @@ fn late_estimate() -> Figure {
     late
 }
 
-/// Unit 0: 100 Wh of the code, LLF 1,050, which come to 105 Wh in the classes that have a weight. Unit 1: 40 Wh of E3.
-fn meter_of_code(status: u64, code: u64, take_wh: i64) -> Vec<Call> {
+/// Unit 0: 100 Wh of a code, LLF 1,050, which come to 105 Wh in the classes that have a weight. Unit 1: 40 Wh of the code below it.
+fn meters_of_codes(status: u64, [code, below]: [u64; 2], take_wh: i64) -> Vec<Call> {
     let mut calls = weights();
     calls.extend([
         meter_of(status, MPANS[0], SMART, IMPORT, 0, 1_050),
         meter_of(status, MPANS[1], SMART, IMPORT, 1, 1_000),
         reading(MPANS[0], 1, code, 100),
-        reading(MPANS[1], 1, CODE_E3, 40),
+        reading(MPANS[1], 1, below, 40),
         Call::Take { wh: take_wh },
     ]);
     calls
 }
 
-/// A Wh is still to be allocated. The meter with E3 is estimated.
-fn energised_of_code(name: &'static str, code: u64) -> Figure {
+/// U is 1 Wh. The meter with the code below is estimated.
+fn energised(name: &'static str, codes: [u64; 2]) -> Figure {
     let answer = Allocated { estimated: 1, ..accepted(1, 105_000, 1) };
-    figure(name, meter_of_code(ENERGISED, code, 146), answer, &[(0, 106), (1, 40)])
+    figure(name, meters_of_codes(ENERGISED, codes, 146), answer, &[(0, 106), (1, 40)])
 }
 
-/// A Wh is still to be allocated. The meter with E3 is idle.
-fn de_energised_of_code(name: &'static str, code: u64) -> Figure {
+/// U is 1 Wh. The meter with the code below is idle.
+fn de_energised(name: &'static str, codes: [u64; 2]) -> Figure {
     let answer = Allocated { idle: 1, ..accepted(1, 105_000, 1) };
-    figure(name, meter_of_code(DE_ENERGISED, code, 106), answer, &[(0, 106)])
+    figure(name, meters_of_codes(DE_ENERGISED, codes, 106), answer, &[(0, 106)])
 }
 
 fn figures() -> Vec<Figure> {
@@ -166,10 +167,10 @@ fn figures() -> Vec<Figure> {
         figure("case 8", ten_wh_each(2, 1_050, 21), accepted(0, 21_000, 2), &[(0, 21)]),
         figure("case 9", vec![Call::Take { wh: 0 }], refused(10), &[]),
         late_estimate(),
-        energised_of_code("case 11, E2", CODE_E2),
-        de_energised_of_code("case 12, E2 de-energised", CODE_E2),
-        energised_of_code("case 13, E6", CODE_E6),
-        de_energised_of_code("case 14, E6 de-energised", CODE_E6),
+        energised("case 11", [CODE_E2, CODE_E1]),
+        de_energised("case 12", [CODE_E2, CODE_E1]),
+        energised("case 13", [CODE_E6, CODE_E5]),
+        de_energised("case 14", [CODE_E6, CODE_E5]),
     ]
 }
 

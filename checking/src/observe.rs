@@ -135,8 +135,9 @@ fn note_meters(reach: &mut Reach, contents: &Contents, sums: &Sums) {
         match (registration.status, quality) {
             (2, Some(9)) => reach.note_if(Situation::EnergisedE2, actual),
             (2, Some(13)) => reach.note_if(Situation::EnergisedE6, actual),
-            (2, Some(8 | 10)) => reach.note_if(Situation::EnergisedBesideE2, estimated),
-            (2, Some(12)) => reach.note_if(Situation::EnergisedBesideE6, estimated),
+            (2, Some(8)) => reach.note_if(Situation::EnergisedE1, estimated),
+            (2, Some(10)) => reach.note_if(Situation::EnergisedE3, estimated),
+            (2, Some(12)) => reach.note_if(Situation::EnergisedE5, estimated),
             (1, Some(0..=6)) => reach.note_if(Situation::DeEnergisedActual, actual),
             (1, Some(9)) => reach.note_if(Situation::DeEnergisedE2, actual),
             (1, Some(13)) => reach.note_if(Situation::DeEnergisedE6, actual),

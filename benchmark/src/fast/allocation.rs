@@ -35,11 +35,11 @@ pub fn allocate(settings: Settings, rows: &[u64], volumes: &mut [i64]) -> Alloca
 
 pub fn source(registration: u64, reading: u64) -> usize {
     let actual = ACTUAL_CODES >> (reading >> 24 & 31) & 1 == 1;
-    let by_reading = if actual { ACTUAL } else { ESTIMATED };
     match registration >> 3 & 3 {
         2 if reading == 0 => DEFAULTED,
-        2 => by_reading,
-        1 if reading != 0 && actual => by_reading,
+        // Without a branch: no processor can guess which readings are estimated.
+        2 => usize::from(!actual),
+        1 if reading != 0 && actual => ACTUAL,
         _ => IDLE,
     }
 }

@@ -54,14 +54,14 @@ fn note_words(reach: &mut Reach, contents: &Contents, words: &[u64]) {
 
 /// Notes what meters the totals are of.
 fn note_meters(reach: &mut Reach, contents: &Contents, asked: &Asked) {
-    let readings = contents.meters.iter().map(|(_, reading)| reading.map(|reading| reading.quality));
-    for ((registration, energy), quality) in energies(contents).zip(readings).filter(|((r, _), _)| asked.is_of(r)) {
+    let qualities = contents.meters.iter().map(|(_, reading)| reading.map(|reading| reading.quality));
+    for ((registration, energy), quality) in energies(contents).zip(qualities).filter(|((r, _), _)| asked.is_of(r)) {
         let situation = match (energy, registration.status, quality) {
             (Energy::Idle, _, _) => Situation::TotalsIdle,
             (Energy::Actual(0) | Energy::Estimated(0) | Energy::Defaulted(Some(0)), _, _) => Situation::TotalsNoWh,
             (Energy::Actual(_), 1, Some(9)) => Situation::TotalsDeEnergisedE2,
             (Energy::Actual(_), 1, Some(13)) => Situation::TotalsDeEnergisedE6,
-            (Energy::Actual(_), 1, _) => Situation::TotalsDeEnergised,
+            (Energy::Actual(_), 1, _) => Situation::TotalsDeEnergisedActual,
             (Energy::Actual(_), _, Some(9)) => Situation::TotalsE2,
             (Energy::Actual(_), _, Some(13)) => Situation::TotalsE6,
             (Energy::Actual(_), _, _) => Situation::TotalsActual,

@@ -15,7 +15,7 @@ use Rattle.cells.specs.Energy.{Source, actualReading, estimatedReading, 
 abbrev pub units : ℕ
 units = 32
 
--- "e is 0 for codes 0–6 and 1 for every other code and for a default"; "e becomes 0" for E2 and E6 (request 2), whose readings are actual; an idle meter has no energy in any class
+-- "e is 0" for an actual reading "and 1 for every other code and for a default"; an idle meter has no energy in any class
 unfoldable pub estimateBit : Source → ℕ
 estimateBit actualReading = 0
 estimateBit estimatedReading = 1

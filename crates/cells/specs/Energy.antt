@@ -23,11 +23,11 @@ deEnergised = 1
 abbrev pub energised : ℕ
 energised = 2
 
--- a reading in use, by its code: "e is 0 for codes 0–6 and 1 for every other code", and document 02, request 2, of E2 and E6: "e becomes 0 for them, they count as actual"
+-- a reading in use, by its code: "e is 0 for codes 0–6 and 1 for every other code"; of E2 and E6 (document 02, request 2) "e becomes 0 for them, they count as actual"
 unfoldable pub readingSource : ℕ → Source
 readingSource word = cond (isActual (qualityOf word)) actualReading estimatedReading
 
--- "de-energised, its reading if the code is 0–6, E2 or E6, else none"
+-- "de-energised, its reading if the code is 0–6, E2 or E6, else none": if it is actual
 unfoldable pub usedDeEnergised : ℕ → Bool
 usedDeEnergised word = not (eqb word noReading) && isActual (qualityOf word)
 
@@ -71,7 +71,7 @@ unfoldable pub anyLacksShape : List ℕ → List Row → Bool
 anyLacksShape shapes [] = false
 anyLacksShape shapes (r ∷ meters) = lacksShape shapes (r .registration) (r .reading) || anyLacksShape shapes meters
 
--- "four counts: actual (used code 0–6), estimated (used code 7 or more), defaulted, idle", with E2 and E6 among the actual (request 2)
+-- "four counts: actual [..], estimated [..], defaulted, idle"
 pub record Counts : Type 0 where
   pub actual : ℕ
   pub estimated : ℕ

@@ -1,4 +1,4 @@
--- The table of worked figures holds of the definitions, document 01's cases 1 to 10 and those of document 02: every figure, worked by making the calls and worked from what the list of calls means, by computation. Assumes nothing.
+-- The table of worked cases holds of the definitions, document 01's cases 1 to 10 and those of document 02: every figure, worked by making the calls and worked from what the list of calls means, by computation. Assumes nothing.
 use mathlib.Core.Bool.{Bool, true, false, _&&_}
 use mathlib.Core.List.{List, [], _∷_, _++_}
 use lib.Dec.{T}
@@ -27,15 +27,16 @@ pub worked-cases : T (casesHold workedCases)
 unfolding sum floorOf fractionOf nearestWh isMpan registrationOf registrationWord registrationInRange isRegistration unitOf readingOf readingWord isActual qualityAllowed readingInRange isReading takeFormed allOf settingsFormed capacity rowsOf wordsOf written rowsFormed isKnown issueHeld withRegistration withReading usedRows wellFormed outcome withSetting settingCause hasNoRoom registrationCause readingCause causeAfterTest callCause bookMade callOutcome bookAfter numbersGiven readingSource usedDeEnergised sourceOf shapeWh energyFrom energyWh lacksShapeFrom anyLacksShape countFor countsOf estimateBit consumptionClass inCell sumOver consumptionCell lossCell cell countFrom cellsOf netOf weightedOf unitSums allUnitSums unallocatedOf weightedTotal shareNumerator shareFloor shareFraction countBefore extraWh roundedVolumes lackingWh volumesFrom volumesOf exceedsTolerance sumsCause metersCause allocationCause figuresOf withVolumes allocationOutcome allocateCall isCharged actualFrom otherFrom isIdle oneOf sumWhere tariffTotals same sameNumbers figureHolds figuresHold byCalls byMeaning caseHolds holds casesHold cases codeCases only gather lastOr settingSet weightSet shapeSet toleranceSet takeSet meantWeight meantShape meantTolerance meantTake isAny meantTakeSet mpanRegistered without different meantMpans registrationSet meantRegistration sinceRegistered readingFree countedReadings higherIssue newestReading meantMeter meantMeters meantSettings
 worked-cases = tt
 
-also : (x y z : Bool) → (T y → T z) → T (x && y) → T (x && z)
-also true y z f h = f h
-also false y z f h = h
+-- of two tests that hold, the second may be put aside for one that follows from it
+and-weakened : (x y z : Bool) → (T y → T z) → T (x && y) → T (x && z)
+and-weakened true y z f h = f h
+and-weakened false y z f h = h
 
 -- the first part of a table that holds
 first-part : (xs ys : List Case) → T (casesHold (xs ++ ys)) → T (casesHold xs)
 unfolding casesHold
 first-part [] ys h = tt
-first-part (x ∷ xs) ys h = also (holds x) (casesHold (xs ++ ys)) (casesHold xs) (first-part xs ys) h
+first-part (x ∷ xs) ys h = and-weakened (holds x) (casesHold (xs ++ ys)) (casesHold xs) (first-part xs ys) h
 
 -- cases 1 to 10
 pub ten-cases : T (casesHold cases)

@@ -12,7 +12,6 @@ use Rattle.book.specs.Book.{Book, freshBook, usedRows}
 use Rattle.calls.specs.declared.Call.{Call}
 use Rattle.calls.specs.declared.Call.the-variants.{Register, Record, Set}
 use Rattle.calls.specs.Calls.{bookAfter, numbersGiven}
-use Rattle.cells.specs.Energy.{deEnergised, energised}
 use Rattle.cells.specs.Cells.{cell}
 use Rattle.totals.specs.Totals.{tariffTotals}
 use Rattle.correction.specs.Volumes.{volumesOf}
@@ -122,7 +121,7 @@ unfoldable pub casesHold : List Case → Bool
 casesHold [] = true
 casesHold (x ∷ cases) = holds x && casesHold cases
 
--- a meter of a base unit, by status, segment, direction and LLF
+-- a meter of a base unit, by status (2 energised, 1 de-energised), segment, direction and LLF
 abbrev pub meterOf : ℕ → ℕ → ℕ → ℕ → ℕ → ℕ → Call
 meterOf status mpan segment direction base llf =
     Register mpan
@@ -141,7 +140,7 @@ meterOf status mpan segment direction base llf =
 
 -- an energised one
 abbrev pub meter : ℕ → ℕ → ℕ → ℕ → ℕ → Call
-meter mpan segment direction base llf = meterOf energised mpan segment direction base llf
+meter mpan segment direction base llf = meterOf 2 mpan segment direction base llf
 
 -- a reading of issue 1, by its code
 abbrev pub readingOfCode : ℕ → ℕ → ℕ → Call
@@ -222,15 +221,15 @@ cases =
     }
     ∷ []
 
--- document 02, request 2. Two smart import meters of one status. Unit 0: 100 Wh of the code, LLF 1,050. Unit 1: 40 Wh of code 10 (E3), LLF 1,000
-abbrev pub metersOfCode : (status code : ℕ) → ℤ → List Call
-metersOfCode status code takeWh =
+-- document 02, request 2. Two smart import meters of one status. Unit 0: 100 Wh of a code, LLF 1,050. Unit 1: 40 Wh of the code below it, LLF 1,000
+abbrev pub metersOfCodes : (status code below : ℕ) → ℤ → List Call
+metersOfCodes status code below takeWh =
     weights
     ++ Set (GroupTake takeWh)
     ∷ meterOf status 1200000000002 1 0 0 1050
     ∷ meterOf status 1300000000007 1 0 1 1000
     ∷ readingOfCode code 1200000000002 100
-    ∷ readingOfCode 10 1300000000007 40
+    ∷ readingOfCode below 1300000000007 40
     ∷ []
 
 -- the code's Wh and its losses are in classes 8 and 9, and none in 10 and 11: U 1, W 105,000, and 106 Wh
@@ -246,7 +245,7 @@ actualFigures =
     ∷ volumeIs 0 (pos 106)
     ∷ []
 
--- energised, Take 146: E3 is estimated, in class 10 and with the other Wh
+-- energised, Take 146: the code below is estimated, in class 10 and with the other Wh
 abbrev pub energisedFigures : List Figure
 energisedFigures =
     actualFigures
@@ -256,7 +255,7 @@ energisedFigures =
     ∷ totalsAre (100 ∷ 40 ∷ 2 ∷ 0 ∷ [])
     ∷ []
 
--- de-energised, Take 106: the meter with E3 is idle
+-- de-energised, Take 106: the meter with the code below is idle
 abbrev pub deEnergisedFigures : List Figure
 deEnergisedFigures =
     actualFigures
@@ -266,19 +265,19 @@ deEnergisedFigures =
     ∷ totalsAre (100 ∷ 0 ∷ 0 ∷ 1 ∷ [])
     ∷ []
 
--- "E2 and E6 join the actuals": 7 + 2 is E2 and 7 + 6 is E6
+-- "E2 and E6 join the actuals": 9 is E2, above E1, and 13 is E6, above E5
 unfoldable pub codeCases : List Case
 codeCases =
     -- 11: E2, energised
-    record { calls = metersOfCode energised 9 (pos 146); figures = energisedFigures }
+    record { calls = metersOfCodes 2 9 8 (pos 146); figures = energisedFigures }
     -- 12: E2, de-energised
-    ∷ record { calls = metersOfCode deEnergised 9 (pos 106); figures = deEnergisedFigures }
+    ∷ record { calls = metersOfCodes 1 9 8 (pos 106); figures = deEnergisedFigures }
     -- 13: E6, energised
-    ∷ record { calls = metersOfCode energised 13 (pos 146); figures = energisedFigures }
+    ∷ record { calls = metersOfCodes 2 13 12 (pos 146); figures = energisedFigures }
     -- 14: E6, de-energised
-    ∷ record { calls = metersOfCode deEnergised 13 (pos 106); figures = deEnergisedFigures }
+    ∷ record { calls = metersOfCodes 1 13 12 (pos 106); figures = deEnergisedFigures }
     ∷ []
 
--- the table of worked figures
+-- the table of worked cases
 abbrev pub workedCases : List Case
 workedCases = cases ++ codeCases

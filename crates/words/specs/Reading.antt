@@ -26,7 +26,7 @@ readingOf w = record { issue = issueOf w; quality = qualityOf w; consumption = c
 unfoldable pub readingWord : Reading → ℕ
 readingWord r = r .consumption + r .quality * 2 ^ 24 + r .issue * 2 ^ 32
 
--- "0–6 are A, A1, A2, A3, AAE1, AAE2, AAE3; 7 + n is En", and document 02, request 2: "E2 and E6 join the actuals". The actual codes, which are also those that a de-energised meter uses
+-- "0–6 are A, A1, A2, A3, AAE1, AAE2, AAE3; 7 + n is En", and document 02, request 2: "E2 and E6 join the actuals": the actual codes
 unfoldable pub isActual : ℕ → Bool
 isActual q = leb q 6 || eqb q 9 || eqb q 13
 

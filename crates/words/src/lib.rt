@@ -266,11 +266,20 @@ pub fn issue(w: u64) -> u64
     bits(w, 32, 32)
 }
 
-// Whether the code q is actual: one of A to AAE3, or E2 or E6.
+// The actual codes, a bit for each: those up to AAE3, E2 and E6.
+const ACTUAL_CODES: u64 = ((2 << Reading::QUALITY_AAE3) - 1)
+    | (1 << Reading::QUALITY_E2)
+    | (1 << Reading::QUALITY_E6);
+
+// Whether the code q is actual. It is asked of every meter, so the codes are looked up as bits. A word's code has five bits, so that
+// there the compiler leaves the first test out.
 pub fn is_actual(q: u64) -> bool
     ensures { λ r. ⌜ r ≡ isActual q ⌝ }
 {
-    (q <= Reading::QUALITY_AAE3) | (q == Reading::QUALITY_E2) | (q == Reading::QUALITY_E6)
+    if q > 31 {
+        return false;
+    }
+    bits(ACTUAL_CODES, q, 1) == 1
 }
 
 impl Reading {
