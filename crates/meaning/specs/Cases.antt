@@ -232,50 +232,50 @@ metersOfCodes status code below takeWh =
     ∷ readingOfCode below 1300000000007 40
     ∷ []
 
--- the code's Wh and its losses are in classes 8 and 9, and none in 10 and 11: U 1, W 105,000, and 106 Wh
-abbrev pub actualFigures : List Figure
-actualFigures =
+-- the code's Wh and its losses are in classes 8 and 9, and none in 10 and 11: U 1, W 105,000, and 106 Wh. What the code below comes to, the counts and the totals go by the status
+abbrev pub codeFigures : (belowWh : ℤ) → (counts totals : List ℕ) → List Figure
+codeFigures belowWh counts totals =
     allocationGives 0
     ∷ cellIs 0 8 (pos 100)
     ∷ cellIs 0 9 (pos 5)
     ∷ cellIs 0 10 (pos 0)
     ∷ cellIs 0 11 (pos 0)
+    ∷ cellIs 1 10 belowWh
     ∷ unallocatedIs (pos 1)
     ∷ weightedIs (pos 105000)
     ∷ volumeIs 0 (pos 106)
+    ∷ volumeIs 1 belowWh
+    ∷ countsAre counts
+    ∷ totalsAre totals
     ∷ []
 
 -- energised, Take 146: the code below is estimated, in class 10 and with the other Wh
-abbrev pub energisedFigures : List Figure
-energisedFigures =
-    actualFigures
-    ++ cellIs 1 10 (pos 40)
-    ∷ volumeIs 1 (pos 40)
-    ∷ countsAre (1 ∷ 1 ∷ 0 ∷ 0 ∷ [])
-    ∷ totalsAre (100 ∷ 40 ∷ 2 ∷ 0 ∷ [])
-    ∷ []
+abbrev pub energisedCase : (code below : ℕ) → Case
+energisedCase code below =
+    record {
+      calls = metersOfCodes 2 code below (pos 146);
+      figures = codeFigures (pos 40) (1 ∷ 1 ∷ 0 ∷ 0 ∷ []) (100 ∷ 40 ∷ 2 ∷ 0 ∷ []);
+    }
 
 -- de-energised, Take 106: the meter with the code below is idle
-abbrev pub deEnergisedFigures : List Figure
-deEnergisedFigures =
-    actualFigures
-    ++ cellIs 1 10 (pos 0)
-    ∷ volumeIs 1 (pos 0)
-    ∷ countsAre (1 ∷ 0 ∷ 0 ∷ 1 ∷ [])
-    ∷ totalsAre (100 ∷ 0 ∷ 0 ∷ 1 ∷ [])
-    ∷ []
+abbrev pub deEnergisedCase : (code below : ℕ) → Case
+deEnergisedCase code below =
+    record {
+      calls = metersOfCodes 1 code below (pos 106);
+      figures = codeFigures (pos 0) (1 ∷ 0 ∷ 0 ∷ 1 ∷ []) (100 ∷ 0 ∷ 0 ∷ 1 ∷ []);
+    }
 
 -- "E2 and E6 join the actuals": 9 is E2, above E1, and 13 is E6, above E5
 unfoldable pub codeCases : List Case
 codeCases =
     -- 11: E2, energised
-    record { calls = metersOfCodes 2 9 8 (pos 146); figures = energisedFigures }
+    energisedCase 9 8
     -- 12: E2, de-energised
-    ∷ record { calls = metersOfCodes 1 9 8 (pos 106); figures = deEnergisedFigures }
+    ∷ deEnergisedCase 9 8
     -- 13: E6, energised
-    ∷ record { calls = metersOfCodes 2 13 12 (pos 146); figures = energisedFigures }
+    ∷ energisedCase 13 12
     -- 14: E6, de-energised
-    ∷ record { calls = metersOfCodes 1 13 12 (pos 106); figures = deEnergisedFigures }
+    ∷ deEnergisedCase 13 12
     ∷ []
 
 -- the table of worked cases
