@@ -212,26 +212,33 @@ pub fn check_figures(reach: &mut Reach) -> Result<usize, crate::compare::Failure
     Ok(figures.len() + 2)
 }
 
+/// Who is compared, where the second method itself is held to the paper.
+const PAPER: &str = "(here \"library\" is the model, \"model\" the paper)";
+
 fn check_figure(figure: &Figure, reach: &mut Reach) -> Checked {
     let case = Case { rows: vec![0; 12], calls: figure.calls.clone(), volumes: vec![0; UNITS], seed: 1 };
-    let expected = Expected::of(&case);
-    same_words("numbers (here \"library\" is the model, \"model\" the paper)", &expected.numbers, &figure.numbers)?;
+    at(|| String::from(PAPER), check_model(figure, &case))?;
+    // The library is held to the model, which was just held to the paper.
+    check_case(&case, reach)
+}
+
+fn check_model(figure: &Figure, case: &Case) -> Checked {
+    let expected = Expected::of(case);
+    same_words("numbers", &expected.numbers, &figure.numbers)?;
     let allocation = expected.book.allocate(UNITS);
     let mut volumes = vec![0; UNITS];
     for &(unit, wh) in &figure.volumes {
         volumes[unit] = wh;
     }
     same_allocated(&allocation.answer, &figure.answer)?;
-    same_words("volumes", &allocation.volumes_after(&case.volumes), &volumes)?;
-    // The library is held to the model, which was just held to the paper.
-    check_case(&case, reach)
+    same_words("volumes", &allocation.volumes_after(&case.volumes), &volumes)
 }
 
 /// The example's calls through the library, and its text through the second implementation of the format.
 fn check_example() -> Checked {
     let printed = format::output_of(EXAMPLE_INPUT.as_bytes());
     let printed = String::from_utf8_lossy(&printed);
-    same("text", printed.as_ref(), EXAMPLE_OUTPUT)?;
+    at(|| String::from(PAPER), same("text", printed.as_ref(), EXAMPLE_OUTPUT))?;
     let mut lent = Lent::fresh(&vec![0; format::ROW_WORDS_LENT]);
     for line in EXAMPLE_INPUT.lines() {
         let call = format::call_of(line.as_bytes()).expect("the example is in form");
