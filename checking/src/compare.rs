@@ -15,6 +15,9 @@ pub fn at(place: impl FnOnce() -> String, outcome: Checked) -> Checked {
     outcome.map_err(|Failure(words)| Failure(format!("{}: {words}", place())))
 }
 
+/// Put before a failure's words where the second method itself is held to worked figures, for those words name two others.
+pub const AGAINST_FIGURES: &str = "(here \"library\" is the model, \"model\" the figures)";
+
 pub fn same<T: PartialEq + Display>(what: &str, library: T, model: T) -> Checked {
     if library == model {
         return Ok(());

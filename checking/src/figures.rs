@@ -3,7 +3,7 @@
 
 use crate::call::Call;
 use crate::check::{check_case, Case, Expected};
-use crate::compare::{at, same, same_allocated, same_words, Checked};
+use crate::compare::{at, same, same_allocated, same_words, Checked, AGAINST_FIGURES};
 use crate::lent::Lent;
 use crate::reach::Reach;
 use crate::settle::format;
@@ -212,13 +212,10 @@ pub fn check_figures(reach: &mut Reach) -> Result<usize, crate::compare::Failure
     Ok(figures.len() + 2)
 }
 
-/// Who is compared, where the second method itself is held to the paper.
-const PAPER: &str = "(here \"library\" is the model, \"model\" the paper)";
-
 fn check_figure(figure: &Figure, reach: &mut Reach) -> Checked {
     let case = Case { rows: vec![0; 12], calls: figure.calls.clone(), volumes: vec![0; UNITS], seed: 1 };
-    at(|| String::from(PAPER), check_model(figure, &case))?;
-    // The library is held to the model, which was just held to the paper.
+    at(|| String::from(AGAINST_FIGURES), check_model(figure, &case))?;
+    // The library is held to the model, which was just held to the figures.
     check_case(&case, reach)
 }
 
@@ -238,7 +235,7 @@ fn check_model(figure: &Figure, case: &Case) -> Checked {
 fn check_example() -> Checked {
     let printed = format::output_of(EXAMPLE_INPUT.as_bytes());
     let printed = String::from_utf8_lossy(&printed);
-    at(|| String::from(PAPER), same("text", printed.as_ref(), EXAMPLE_OUTPUT))?;
+    at(|| String::from(AGAINST_FIGURES), same("text", printed.as_ref(), EXAMPLE_OUTPUT))?;
     let mut lent = Lent::fresh(&vec![0; format::ROW_WORDS_LENT]);
     for line in EXAMPLE_INPUT.lines() {
         let call = format::call_of(line.as_bytes()).expect("the example is in form");

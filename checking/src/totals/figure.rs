@@ -2,7 +2,7 @@
 
 use super::check_totals;
 use crate::call::Call;
-use crate::compare::{at, same, same_words, Checked};
+use crate::compare::{at, same, same_words, Checked, AGAINST_FIGURES};
 use crate::lent::Lent;
 use crate::model::totals::{Asked, Totals, WORDS};
 use crate::model::Book;
@@ -90,7 +90,7 @@ fn check_one(book: &Book, asked: &Asked, charged: &[Charged], reach: &mut Reach)
         words[4 * tariff..4 * tariff + 4].copy_from_slice(of_tariff);
     }
     let worked = Totals::of(&book.contents(), asked).slice_after(&[u64::MAX; WORDS]);
-    same_words("totals (here \"library\" is the model, \"model\" the figures)", &worked, &words)?;
+    at(|| String::from(AGAINST_FIGURES), same_words("totals", &worked, &words))?;
     let mut lent = Lent::new(book.settings(), &book.words());
     check_totals(&mut lent, Some(book), asked, &mut Random::new(1), reach)
 }
