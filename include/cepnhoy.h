@@ -175,6 +175,23 @@ extern "C" {
  * itself and 1 for its losses. So class 8 is smart import with actual readings, and class 9 the
  * losses of that. */
 
+/* THE LOSSES OF A UNIT
+ *
+ * The exact losses of a meter are (line loss factor - 1000) x energy, in thousandths of a Wh. They
+ * are added up for each unit and class of losses, and each such sum is rounded to the nearest Wh,
+ * halves away from zero. Volumes, U and W are worked from the rounded losses.
+ *
+ * Rounding drops the exact sum less 1000 x the rounded Wh, which is from -500 to 500 thousandths: a
+ * sum of 500 is rounded to 1 Wh and drops -500, and one of -500 is rounded to -1 Wh and drops 500.
+ * The droppings of a unit are those of its six import classes of losses less those of its six
+ * export classes, so they are 6,000 at most in size. An accepted allocation returns them, and for
+ * each unit
+ *
+ *   1000 x rounded losses + droppings = exact losses of its meters
+ *
+ * where both losses are those of import less those of export. Weights, tolerance and Take play no
+ * part in droppings. The file examples/reconcile_losses.c works with them. */
+
 /* NUMBERS GIVEN */
 
 #define CEPNHOY_ACCEPTED 0
@@ -274,6 +291,7 @@ typedef struct {
     uint64_t estimated;  /* how many used a reading with another code */
     uint64_t defaulted;  /* how many used the load shape of their category */
     uint64_t idle;       /* how many have no energy; the four counts add up to the meters */
+    int64_t droppings[CEPNHOY_UNITS]; /* by unit, in thousandths of Wh: see THE LOSSES OF A UNIT */
 } cepnhoy_allocated;
 
 /* The answer of an allocation. */
@@ -323,8 +341,9 @@ cepnhoy_answer cepnhoy_set_take(
     int64_t wh);
 
 /* Allocates the Take to the 32 units, and writes the volume of unit i, in Wh, to volumes[i]. The
- * volumes add up to the Take. Words after the 32nd are not written, and the book is not changed.
- * Refusals 1, 7, 8, 9, 10, 11. */
+ * volumes add up to the Take. What rounding dropped of the losses of unit i is droppings[i] in the
+ * answer. Words after the 32nd are not written, and the book is not changed. Refusals 1, 7, 8, 9,
+ * 10, 11. */
 cepnhoy_allocation_answer cepnhoy_allocate(
     cepnhoy_settings settings, const uint64_t *rows, size_t rows_length,
     int64_t *volumes, size_t volumes_length);

@@ -3,9 +3,11 @@
 use crate::books::random_volume_words;
 use crate::call::{list_words, Call};
 use crate::compare::{at, same, same_allocated, same_settings, same_words, Checked};
+use crate::droppings::check_reconciled;
 use crate::entry::Entry;
 use crate::lent::{Guarded, Lent};
-use crate::model::allocation::{allocate, Allocation, Contents};
+use crate::model::allocation::{allocate, Allocation};
+use crate::model::cells::Contents;
 use crate::model::ranges::capacity;
 use crate::model::{Book, Meaning};
 use crate::observe::{note_allocation, note_call, note_list};
@@ -47,6 +49,7 @@ pub fn check_case(case: &Case, reach: &mut Reach) -> Checked {
     check_lists(case, &expected, reach)?;
     check_resumed(case, &expected, reach)?;
     check_misshapen(case, reach)?;
+    check_reconciled(&expected.book, reach)?;
     check_book_totals(&expected.book, &case.volumes, &mut Random::part(case.seed, 8), reach)
 }
 

@@ -53,7 +53,8 @@ pub fn same_allocated(library: &Allocated, model: &Allocated) -> Checked {
     same("actual", library.actual, model.actual)?;
     same("estimated", library.estimated, model.estimated)?;
     same("defaulted", library.defaulted, model.defaulted)?;
-    same("idle", library.idle, model.idle)
+    same("idle", library.idle, model.idle)?;
+    same_words("droppings", &library.droppings, &model.droppings)
 }
 
 /// Settings as a few words: only what differs from a fresh book.

@@ -4,6 +4,7 @@
 use crate::call::Call;
 use crate::check::{check_allocation, check_call, check_lists, Case, Expected};
 use crate::compare::{at, Checked};
+use crate::droppings::check_reconciled;
 use crate::lent::Lent;
 use crate::model::ranges::METERS_MOST;
 use crate::model::Book;
@@ -122,6 +123,7 @@ pub fn check_large(case: &Case, reach: &mut Reach) -> Checked {
     note_capacity(reach, &expected, case.rows.len());
     check_lists(case, &expected, reach)?;
     check_moved(case, reach)?;
+    check_reconciled(&expected.book, reach)?;
     check_calls_again(case, expected.book, reach)
 }
 

@@ -6,6 +6,7 @@ pub mod call;
 pub mod check;
 pub mod compare;
 pub mod damage;
+pub mod droppings;
 pub mod entry;
 pub mod figures;
 pub mod large;

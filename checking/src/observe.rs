@@ -1,10 +1,10 @@
 //! Which situations a call or an allocation met, seen from the second method's side.
 
 use crate::call::Call;
-use crate::model::allocation::{
-    cell_of, loss_thousandths, nearest_wh, order_served, Allocation, Cells, Contents, Energy, Sums, Workings,
-};
+use crate::droppings::note_droppings;
+use crate::model::allocation::{order_served, Allocation, Sums, Workings};
 use crate::model::book::shape_held;
+use crate::model::cells::{cell_of, loss_thousandths, nearest_wh, Cells, Contents, Energy};
 use crate::model::Book;
 use crate::reach::Reach;
 use crate::situation::Situation;
@@ -85,6 +85,7 @@ pub fn note_allocation(reach: &mut Reach, contents: &Contents, allocation: &Allo
     reach.note_causes(&allocation_causes(contents, volume_words));
     if let Some(sums) = &allocation.sums {
         note_sums(reach, contents, sums, allocation.answer.number);
+        note_droppings(reach, sums, allocation.answer.number);
     }
     if let (Some(sums), Some(workings)) = (&allocation.sums, &allocation.workings) {
         note_meters(reach, contents, sums);
@@ -152,10 +153,7 @@ fn note_losses(reach: &mut Reach, contents: &Contents, sums: &Sums) {
     let rounded_each = losses_rounded_each(contents, sums);
     let losses = sums.cells.iter().filter(|((_, class), _)| class % 2 == 1);
     for (cell, &thousandths) in losses {
-        let half = thousandths.abs() % 1_000 == 500;
         reach.note_if(Situation::LossNegative, thousandths < 0);
-        reach.note_if(Situation::LossHalfAbove, half && thousandths > 0);
-        reach.note_if(Situation::LossHalfBelow, half && thousandths < 0);
         reach.note_if(Situation::LossRoundedOnce, rounded_each.get(cell) != Some(&nearest_wh(thousandths)));
     }
 }

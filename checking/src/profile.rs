@@ -22,7 +22,7 @@ enum Energies {
 impl Energies {
     fn random(random: &mut Random) -> Energies {
         match random.index(8) {
-            0 | 1 => Energies::Equal(*random.pick(&[1, 100, 100, 333, 1_000_000])),
+            0 | 1 => Energies::Equal(*random.pick(&[1, 3, 100, 100, 333, 1_000_000])),
             2 => Energies::Tiny,
             3 | 4 => Energies::Small,
             5 | 6 => Energies::Any,
@@ -248,10 +248,11 @@ pub fn random_number(most: u64, random: &mut Random) -> u64 {
     *random.pick(&[0, most, any, any])
 }
 
-/// Round numbers, where losses come to exact halves, the ends of the range, and any.
+/// Round numbers, where losses come to exact halves, the ends of the range, such as make losses of 1 or 3 Wh miss a half by a
+/// thousandth, and any.
 fn random_llf(random: &mut Random) -> u64 {
     let any = random.between(500, 2_000);
-    let llfs = [1_000, 1_000, 1_000, 1_050, 950, 1_005, 995, 1_001, 999, 500, 2_000];
+    let llfs = [1_000, 1_000, 1_000, 1_050, 950, 1_005, 995, 1_001, 999, 500, 2_000, 1_499, 1_501, 501, 833];
     match random.percent(60) {
         true => *random.pick(&llfs),
         false => any,

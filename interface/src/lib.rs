@@ -118,7 +118,8 @@ pub struct Answer {
     pub settings: Settings,
 }
 
-/// The number given, U in Wh, W in thousandths of a Wh, and the four counts.
+/// The number given, U in Wh, W in thousandths of a Wh, the four counts, and for each unit what rounding dropped of its losses, in
+/// thousandths of a Wh, import less export. All but the number are 0 on a refusal.
 #[repr(C)]
 #[derive(Clone, Copy, Debug, PartialEq, Eq)]
 pub struct Allocated {
@@ -129,6 +130,7 @@ pub struct Allocated {
     pub estimated: u64,
     pub defaulted: u64,
     pub idle: u64,
+    pub droppings: [i64; UNITS],
 }
 
 #[repr(C)]

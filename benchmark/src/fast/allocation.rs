@@ -22,8 +22,24 @@ struct Gathered {
     lacks: bool,
 }
 
-fn refused(number: u64) -> Allocated {
-    Allocated { number, unallocated: 0, weighted: 0, actual: 0, estimated: 0, defaulted: 0, idle: 0 }
+/// By unit: n in Wh, a in thousandths of a Wh, and what rounding the loss cells dropped, import less export.
+struct Sums {
+    nets: [i64; UNITS],
+    weighted: [i64; UNITS],
+    droppings: [i64; UNITS],
+}
+
+pub fn refused(number: u64) -> Allocated {
+    Allocated {
+        number,
+        unallocated: 0,
+        weighted: 0,
+        actual: 0,
+        estimated: 0,
+        defaulted: 0,
+        idle: 0,
+        droppings: [0; UNITS],
+    }
 }
 
 #[inline(never)]
@@ -73,6 +89,27 @@ fn nearest(thousandths: i64) -> i64 {
     (thousandths + if thousandths < 0 { -500 } else { 500 }) / 1_000
 }
 
+/// Cells in pairs, energy and its losses: the sign of a pair is that of its direction, and what was dropped is worked once for all
+/// pairs.
+fn sum_up(cells: &[[i64; CLASSES]; UNITS], weights: &[u32; CLASSES]) -> Sums {
+    let mut sums = Sums { nets: [0; UNITS], weighted: [0; UNITS], droppings: [0; UNITS] };
+    for (unit, cells) in cells.iter().enumerate() {
+        let (mut energy, mut exact, mut rounded) = (0, 0, 0);
+        let pairs = cells.as_chunks::<2>().0.iter().zip(weights.as_chunks::<2>().0);
+        for (pair, (&[wh, loss], &[weight, loss_weight])) in pairs.enumerate() {
+            let sign = if pair & 2 == 0 { 1 } else { -1 };
+            let loss_wh = nearest(loss);
+            energy += sign * wh;
+            exact += sign * loss;
+            rounded += sign * loss_wh;
+            sums.weighted[unit] += wh * i64::from(weight) + loss_wh * i64::from(loss_weight);
+        }
+        sums.nets[unit] = energy + rounded;
+        sums.droppings[unit] = exact - 1_000 * rounded;
+    }
+    sums
+}
+
 pub fn allocate_formed(settings: &Settings, rows: &[u64], volumes: &mut [i64]) -> Allocated {
     let Some(volumes) = volumes.first_chunk_mut::<UNITS>() else {
         return refused(VOLUMES_SHORT);
@@ -84,15 +121,7 @@ pub fn allocate_formed(settings: &Settings, rows: &[u64], volumes: &mut [i64]) -
     if gathered.lacks {
         return refused(SHAPE_MISSING);
     }
-    let mut nets = [0; UNITS];
-    let mut weighted = [0; UNITS];
-    for (unit, cells) in gathered.cells.iter().enumerate() {
-        for (class, &cell) in cells.iter().enumerate() {
-            let whole = if class % 2 == 1 { nearest(cell) } else { cell };
-            nets[unit] += if class & 4 == 0 { whole } else { -whole };
-            weighted[unit] += whole * i64::from(settings.weights[class]);
-        }
-    }
+    let Sums { nets, weighted, droppings } = sum_up(&gathered.cells, &settings.weights);
     let u = settings.take_wh - nets.iter().sum::<i64>();
     let w = weighted.iter().sum::<i64>();
     if w < 1 {
@@ -103,7 +132,7 @@ pub fn allocate_formed(settings: &Settings, rows: &[u64], volumes: &mut [i64]) -
     }
     apportion(settings.take_wh, u, w, &nets, &weighted, volumes);
     let [actual, estimated, defaulted, idle] = gathered.counts;
-    Allocated { number: ACCEPTED, unallocated: u, weighted: w, actual, estimated, defaulted, idle }
+    Allocated { number: ACCEPTED, unallocated: u, weighted: w, actual, estimated, defaulted, idle, droppings }
 }
 
 fn apportion(take: i64, u: i64, w: i64, nets: &[i64; UNITS], weighted: &[i64; UNITS], volumes: &mut [i64; UNITS]) {

@@ -1,16 +1,15 @@
 //! A whole list of calls: the book is tested once. New meters' rows are gathered behind the others in a run of their own and merged
 //! when the run is long, so that a list in any order moves few rows.
 
-use super::allocation::allocate_formed;
+use super::allocation::{allocate_formed, refused};
 use super::rows::{capacity, is_formed, place, used_mut, Row};
 use super::words::{in_range, is_mpan, quality_allowed, reading_in_range, reading_word, registration_word};
 use super::{
     ACCEPTED, BOOK_ILL_FORMED, ISSUE_NOT_ABOVE, LIST_MISSHAPEN, METER_UNKNOWN, NO_ROOM, OUT_OF_RANGE, QUALITY_REFUSED,
 };
 use cepnhoy::{
-    Allocated, AllocationAnswer, Answer, Reading, Registration, Settings, CALL_WORDS, CATEGORIES, CLASSES,
-    KIND_READING, KIND_REGISTER, KIND_SHAPE, KIND_TAKE, KIND_TOLERANCE, KIND_WEIGHT, ROW_WORDS, TAKE_FLAG_SET,
-    TAKE_FLAG_UNSET,
+    AllocationAnswer, Answer, Reading, Registration, Settings, CALL_WORDS, CATEGORIES, CLASSES, KIND_READING,
+    KIND_REGISTER, KIND_SHAPE, KIND_TAKE, KIND_TOLERANCE, KIND_WEIGHT, ROW_WORDS, TAKE_FLAG_SET, TAKE_FLAG_UNSET,
 };
 
 /// How long the run of new rows may grow.
@@ -159,10 +158,6 @@ pub fn settle_list(rows: &mut [u64], calls: &[u64], numbers: &mut [u64], volumes
         take_wh: 0,
     };
     let Answer { number, settings } = make_calls(fresh, rows, calls, numbers);
-    let answer = if number == ACCEPTED {
-        allocate_formed(&settings, rows, volumes)
-    } else {
-        Allocated { number, unallocated: 0, weighted: 0, actual: 0, estimated: 0, defaulted: 0, idle: 0 }
-    };
+    let answer = if number == ACCEPTED { allocate_formed(&settings, rows, volumes) } else { refused(number) };
     AllocationAnswer { answer, settings }
 }

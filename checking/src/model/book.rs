@@ -3,7 +3,8 @@
 use std::collections::BTreeMap;
 
 use crate::call::{Argument, Call};
-use crate::model::allocation::{allocate, Allocation, Contents};
+use crate::model::allocation::{allocate, Allocation};
+use crate::model::cells::Contents;
 use crate::model::ranges::{call_in_range, capacity, in_range, quality_refused, SHAPE_MISSING};
 use crate::model::words::{reading_word, registration_word, written_reading, written_registration};
 use cepnhoy::{Reading, Registration, Settings, CATEGORIES, CLASSES, ROW_WORDS};

@@ -1,8 +1,8 @@
 //! What a list of calls means, read off the list, without making a single call.
 
 use crate::call::Call;
-use crate::model::allocation::Contents;
 use crate::model::book::shape_held;
+use crate::model::cells::Contents;
 use crate::model::ranges::{call_in_range, quality_refused};
 use cepnhoy::{Reading, Registration, CATEGORIES, CLASSES};
 

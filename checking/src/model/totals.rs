@@ -4,7 +4,7 @@
 use std::fmt;
 
 use crate::call::Argument;
-use crate::model::allocation::{energy_of, Contents, Energy};
+use crate::model::cells::{energy_of, Contents, Energy};
 use crate::model::ranges::all_in_range;
 use cepnhoy::Registration;
 

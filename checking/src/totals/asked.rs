@@ -1,6 +1,6 @@
 //! What random totals calls ask for.
 
-use crate::model::allocation::Contents;
+use crate::model::cells::Contents;
 use crate::model::totals::{Asked, WORDS};
 use crate::profile::{random_number, value_outside};
 use crate::random::Random;

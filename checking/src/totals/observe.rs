@@ -2,7 +2,7 @@
 
 use std::collections::BTreeMap;
 
-use crate::model::allocation::{Contents, Energy};
+use crate::model::cells::{Contents, Energy};
 use crate::model::totals::{energies, totals_causes, Asked, Totals};
 use crate::reach::Reach;
 use crate::situation::Situation;

@@ -3,7 +3,8 @@
 use super::{check_totals, random_asked};
 use crate::compare::{at, same, same_allocated, same_words, Checked, Failure};
 use crate::lent::Lent;
-use crate::model::allocation::{is_estimate, is_export, is_loss, Cells, Sums};
+use crate::model::allocation::Sums;
+use crate::model::cells::{is_estimate, is_export, is_loss, Cells};
 use crate::model::totals::WORDS;
 use crate::model::words::{registration_of, registration_word};
 use crate::model::Book;

@@ -8,19 +8,20 @@ use Rattle.book.specs.declared.Settings.{Settings}
 use Rattle.book.specs.Rows.{Row}
 use Rattle.book.specs.Book.{Book, usedRows, wellFormed}
 use Rattle.book.proofs.Charges.{RowsAlike, same-where-alike}
-use Rattle.cells.specs.Cells.{cellsOf}
+use Rattle.cells.specs.Cells.{lossCell, cellsOf}
 use Rattle.cells.specs.Energy.{countsOf, anyLacksShape}
-use Rattle.cells.proofs.Charges.{cells-without-charges, counts-without-charges, lacks-without-charges}
+use Rattle.cells.proofs.Charges.{loss-without-charges, cells-without-charges, counts-without-charges, lacks-without-charges}
 use Rattle.correction.specs.Volumes.{volumesOf, withVolumes}
 use Rattle.allocation.specs.Allocate.{allocationCause, allocationOutcome, allocateCall}
 use Rattle.allocation.proofs.Alike.{MetersAlike, sums-alike, cause-alike, figures-alike}
 use Rattle.allocation.proofs.Outcome.{sumsOf}
 
--- rows that differ only so have the same cells, counts and missing shapes
+-- rows that differ only so have the same cells, losses, counts and missing shapes
 alike-meters : (shapes : List ℕ) (meters others : List Row) → RowsAlike meters others → MetersAlike shapes meters others
 alike-meters shapes meters others alike =
     record {
       same-cells = λ unit. same-where-alike meters others alike (λ (rows : List Row). cellsOf shapes rows unit) (λ rows. cells-without-charges shapes rows unit);
+      same-losses = λ unit class. same-where-alike meters others alike (λ (rows : List Row). lossCell shapes rows unit class) (λ rows. loss-without-charges shapes rows unit class);
       same-counts = same-where-alike meters others alike countsOf counts-without-charges;
       same-lacks = same-where-alike meters others alike (anyLacksShape shapes) (lacks-without-charges shapes);
     }

@@ -4,6 +4,8 @@ pub mod AnyOrder
 -- how large n, a, U and W can be
 pub mod SumBounds
 pub mod Bounds
+-- what rounding drops from the losses
+pub mod Losses
 -- the allocate call
 pub mod Steps
 pub mod Ways

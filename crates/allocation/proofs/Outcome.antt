@@ -1,11 +1,12 @@
--- What an accepted allocation leaves: the figures and volumes of its book, which add up to the Take and are less than 1 Wh from the exact shares.
+-- What an accepted allocation leaves: the figures and volumes of its book, which add up to the Take and are less than 1 Wh from the exact shares, and droppings that make up the exact losses.
 use Prim.Native.Nat.{ℕ, zero, suc, _<_}
-use mathlib.Core.Path.{_≡_, refl, sym, ap, _∙_}
+use mathlib.Core.Path.{_≡_, refl, sym, ap, subst, _∙_}
 use mathlib.Core.List.{List}
 use mathlib.Core.Bool.{not}
 use lib.ListN.{length, getD, take}
 use lib.IntN.{ℤ, pos, natAbs, _-ℤ_, _*ℤ_}
 use lib.Dec.{ltb}
+use borrow.Author.Tests.{not-false}
 use Rattle.refusals.specs.Causes.{accepted}
 use Rattle.refusals.proofs.Passed.{passed}
 use Rattle.integers.specs.Sum.{sum}
@@ -19,7 +20,11 @@ use Rattle.correction.specs.Volumes.{volumesOf}
 use Rattle.correction.specs.Outcome.{correctionOf, volumesWritten}
 use Rattle.correction.proofs.Apportioned.{numeratorsOf}
 use Rattle.correction.proofs.Outcome.{corrected-distance, corrected-slice, corrected-total, corrected-volumes, correction-number}
+use Rattle.allocation.specs.declared.Allocated.{Allocated}
+use Rattle.allocation.specs.Losses.{LossesReconciled}
 use Rattle.allocation.specs.Allocate.{allUnitSums, allocationCause, Allocation, figuresOf, allocationOutcome, allocateCall, metersCause}
+use Rattle.allocation.proofs.Bounds.{book-limited}
+use Rattle.allocation.proofs.Losses.{losses-reconciled}
 use Rattle.allocation.proofs.Steps.{sums-length}
 
 -- the number given is the cause
@@ -68,6 +73,14 @@ module _ (b : Book) (slice : List ℤ) (h : allocateCall b slice .answer .number
   pub accepted-answer : allocateCall b slice .answer ≡ figuresOf (b .settings) (usedRows b)
   unfolding allocationOutcome
   accepted-answer = ap (λ (o : Allocation). o .answer) outcome-is
+
+  -- and its droppings are as promised
+  pub accepted-losses : LossesReconciled (b .settings .shapes) (usedRows b) (allocateCall b slice .answer .droppings)
+  unfolding allocationCause figuresOf
+  accepted-losses =
+      let formed = not-false (wellFormed b) (passed (not (wellFormed b)) _ _ no-cause .0) in
+      subst (λ (a : Allocated). LossesReconciled (b .settings .shapes) (usedRows b) (a .droppings)) (sym accepted-answer)
+      (losses-reconciled (b .settings .shapes) (book-limited b formed .rows))
 
   pub accepted-volumes : take units (allocateCall b slice .volumes) ≡ volumesOf (b .settings .«take_wh») (sumsOf b)
   accepted-volumes = ap (take units) slice-is ∙ corrected-volumes (b .settings .«take_wh») (b .settings .tolerance) (sumsOf b) corrected slice long

@@ -1,16 +1,17 @@
 -- The steps of an allocation of a well-formed book: what each needs, and what they come to together.
-use Prim.Native.Nat.{ℕ, zero, suc, _≤_, _-_}
+use Prim.Native.Nat.{ℕ, zero, suc, _-_, _/_, _%_, _≤_}
 use mathlib.Core.Path.{_≡_, refl, sym, _∙_, ap, subst, fun-ext}
 use mathlib.Core.Bool.{Bool, true, false, cond}
 use mathlib.Core.List.{List, [], _∷_, map, map-map}
 use native.Mathlib.Omega.{arith}
 use borrow.Author.Tests.{leb-true}
-use lib.Dec.{lit<}
-use lib.IntN.{ℤ, pos}
+use lib.Dec.{lit<, eqb}
+use lib.IntN.{ℤ, pos, negℤ}
 use lib.ListN.{length, getD, length-map}
 use mir.Syntax.{w64}
 use mir.Val.{SFits}
-use Rattle.integers.specs.Rounding.{nearestWh}
+use Rattle.integers.specs.Sum.{sum}
+use Rattle.integers.specs.Rounding.{nearestWh, droppedThousandths}
 use Rattle.integers.proofs.Fit.{fit}
 use Rattle.book.specs.declared.Settings.{Settings}
 use Rattle.book.specs.Limits.{classes, categories}
@@ -26,10 +27,12 @@ use Rattle.cells.proofs.Counting.{counted-length, cells-length, cells-at}
 use Rattle.cells.proofs.Tables.{table-row, table-sized}
 use Rattle.cells.proofs.CellBounds.{raw-cell-is}
 use Rattle.correction.specs.declared.UnitSums.{UnitSums}
-use Rattle.correction.specs.Correction.{netOf, weightedOf, netIn, weightedIn}
+use Rattle.correction.specs.Correction.{byDirection, netOf, weightedOf, netIn, weightedIn}
 use Rattle.correction.specs.Outcome.{pairsOf}
-use Rattle.correction.specs.Helpers.{wholeCell, roundedFrom, sumsOf, UnitArguments, AllUnitsArguments, AllUnits, CorrectArguments, sizes}
+use Rattle.correction.specs.Helpers.{wholeCell, droppedCell, eachFrom, roundedFrom, droppedFrom, sumsOf, droppingsOf, UnitArguments, AllUnitsArguments, AllUnits, CorrectArguments, sizes}
+use Rattle.correction.proofs.RunningSums.{net-counted}
 use Rattle.correction.proofs.Pairs.{pairs-of-sums}
+use Rattle.allocation.specs.Losses.{cellDropped, unitDroppings, allDroppings}
 use Rattle.allocation.specs.Allocate.{unitSums, allUnitSums}
 use Rattle.allocation.proofs.Bounds.{Limited, book-limited, cell-limited}
 use Rattle.allocation.proofs.SumBounds.{nets-total, weighteds-total}
@@ -45,14 +48,34 @@ whole-raw shapes meters unit class =
     by true l c = refl
     by false l c = refl
 
-rounded-counted : (f : ℕ → ℤ) (k n : ℕ) → roundedFrom k (map f (countFrom k n)) ≡ map (λ class. wholeCell class (f class)) (countFrom k n)
-unfolding roundedFrom countFrom
-rounded-counted f k zero = refl
-rounded-counted f k (suc n) = ap (λ (xs : List ℤ). wholeCell k (f k) ∷ xs) (rounded-counted f (suc k) n)
+each-counted : (g : ℕ → ℤ → ℤ) (f : ℕ → ℤ) (k n : ℕ) → eachFrom g k (map f (countFrom k n)) ≡ map (λ class. g class (f class)) (countFrom k n)
+unfolding eachFrom countFrom
+each-counted g f k zero = refl
+each-counted g f k (suc n) = ap (λ (xs : List ℤ). g k (f k) ∷ xs) (each-counted g f (suc k) n)
 
 rounded-cells : (shapes : List ℕ) (meters : List Row) (unit : ℕ) → roundedFrom 0 (map (rawCell shapes meters unit) (countFrom 0 classes)) ≡ cellsOf shapes meters unit
 unfolding cellsOf
-rounded-cells shapes meters unit = rounded-counted (rawCell shapes meters unit) 0 classes ∙ simp (whole-raw shapes meters unit)
+rounded-cells shapes meters unit = each-counted wholeCell (rawCell shapes meters unit) 0 classes ∙ simp (whole-raw shapes meters unit)
+
+-- what rounding them drops, import minus export, is what the loss cells of the unit drop
+dropped-cells : (shapes : List ℕ) (meters : List Row) (unit : ℕ) → droppingsOf (map (rawCell shapes meters unit) (countFrom 0 classes)) ≡ unitDroppings shapes meters unit
+unfolding unitDroppings
+dropped-cells shapes meters unit =
+    ap (netOf 0) (each-counted droppedCell (rawCell shapes meters unit) 0 classes)
+    ∙ net-counted (λ class. droppedCell class (rawCell shapes meters unit class)) 0 classes
+    ∙ ap (λ (f : ℕ → ℤ). sum (map f (countFrom 0 classes))) (fun-ext each)
+  where
+    by : (loss import : Bool) (l c : ℤ)
+        → cond import (cond loss (droppedThousandths (cond loss l c)) (pos 0)) (negℤ (cond loss (droppedThousandths (cond loss l c)) (pos 0)))
+        ≡ cond loss (cond import (droppedThousandths l) (negℤ (droppedThousandths l))) (pos 0)
+    by true import l c = refl
+    by false true l c = refl
+    by false false l c = refl
+
+    each : (class : ℕ) → byDirection class (droppedCell class (rawCell shapes meters unit class)) ≡ cond (isLossClass class) (byDirection class (cellDropped shapes meters unit class)) (pos 0)
+    each class =
+        rw (raw-cell-is shapes meters unit class)
+        (by (isLossClass class) (eqb (class / 4 % 2) 0) (lossCell shapes meters unit (class - 1)) (consumptionCell shapes meters unit class))
 
 -- the meters of a book, and n and a of its units
 abbrev pub metersIn : Settings → List ℕ → List Row
@@ -96,14 +119,15 @@ module _ (s : Settings) (words : List ℕ) (wf : wellFormed (lent s words) ≡ t
         weights-bound = λ k. leb-true _ 1000 (entry-passes isWeight (s .weights) k 0 (limited .weights) refl);
       }
 
-  pub all-units-arguments : {table : List (List ℤ)} {nets weighted : List ℤ} → length (s .weights) ≡ classes → length nets ≡ units → length weighted ≡ units
-      → table ≡ tableOf (rawCell (s .shapes) (metersIn s words)) → AllUnitsArguments table (s .weights) nets weighted
-  all-units-arguments long n a t =
+  pub all-units-arguments : {table : List (List ℤ)} {nets weighted droppings : List ℤ} → length (s .weights) ≡ classes → length nets ≡ units → length weighted ≡ units → length droppings ≡ units
+      → table ≡ tableOf (rawCell (s .shapes) (metersIn s words)) → AllUnitsArguments table (s .weights) nets weighted droppings
+  all-units-arguments long n a d t =
       let raw = rawCell (s .shapes) (metersIn s words) in
       record {
         rows-long = ap length t ∙ table-sized raw .rows-long;
         nets-long = n;
         weighted-long = a;
+        droppings-long = d;
         each = λ unit h.
             subst (λ (row : List ℤ). UnitArguments row (s .weights))
             (sym (ap (λ (x : List (List ℤ)). getD x unit []) t ∙ table-row raw unit h))
@@ -113,7 +137,7 @@ module _ (s : Settings) (words : List ℕ) (wf : wellFormed (lent s words) ≡ t
   pub take-fits : SFits w64 (s .«take_wh»)
   take-fits = fit (s .«take_wh») 5000000000 (limited .take-wh) (lit< tt)
 
--- n and a of the units, as the code has them
+-- n, a and droppings of the units, as the code has them
 units-from-table : (s : Settings) (meters : List Row) (read : UnitSums → ℤ) → map (λ cells. read (sumsOf cells (s .weights))) (tableOf (rawCell (s .shapes) meters)) ≡ map read (allUnitSums s meters)
 unfolding tableOf allUnitSums unitSums
 units-from-table s meters read =
@@ -122,12 +146,20 @@ units-from-table s meters read =
     (fun-ext (λ (unit : ℕ). ap (λ (cells : List ℤ). read (record { net = netOf 0 cells; weighted = weightedOf cells (s .weights) })) (rounded-cells (s .shapes) meters unit)))
     ∙ sym (map-map read (unitSums s meters) (countFrom 0 units))
 
-module _ (s : Settings) (words : List ℕ) (wf : wellFormed (lent s words) ≡ true) {table : List (List ℤ)} {nets weighted : List ℤ} (t : table ≡ tableOf (rawCell (s .shapes) (metersIn s words))) (given : AllUnits table (s .weights) nets weighted) where
+droppings-from-table : (shapes : List ℕ) (meters : List Row) → map droppingsOf (tableOf (rawCell shapes meters)) ≡ allDroppings shapes meters
+unfolding tableOf allDroppings
+droppings-from-table shapes meters =
+    map-map _ _ (countFrom 0 units) ∙ ap (λ (f : ℕ → ℤ). map f (countFrom 0 units)) (fun-ext (dropped-cells shapes meters))
+
+module _ (s : Settings) (words : List ℕ) (wf : wellFormed (lent s words) ≡ true) {table : List (List ℤ)} {nets weighted droppings : List ℤ} (t : table ≡ tableOf (rawCell (s .shapes) (metersIn s words))) (given : AllUnits table (s .weights) nets weighted droppings) where
   nets-are : nets ≡ map netIn (sumsIn s words)
   nets-are = given .nets-are ∙ ap (map (λ cells. netIn (sumsOf cells (s .weights)))) t ∙ units-from-table s (metersIn s words) netIn
 
   weighted-are : weighted ≡ map weightedIn (sumsIn s words)
   weighted-are = given .weighted-are ∙ ap (map (λ cells. weightedIn (sumsOf cells (s .weights)))) t ∙ units-from-table s (metersIn s words) weightedIn
+
+  pub droppings-worked : droppings ≡ allDroppings (s .shapes) (metersIn s words)
+  droppings-worked = given .droppings-are ∙ ap (map droppingsOf) t ∙ droppings-from-table (s .shapes) (metersIn s words)
 
   pub sums-worked : pairsOf nets weighted ≡ sumsIn s words
   sums-worked = rw (nets-are, weighted-are) (pairs-of-sums (sumsIn s words))

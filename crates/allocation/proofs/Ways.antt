@@ -18,6 +18,7 @@ use Rattle.correction.specs.declared.Corrected.{Corrected}
 use Rattle.correction.specs.Correction.{sumsCause}
 use Rattle.correction.specs.Outcome.{CorrectionGives, correctedBy, correctionOf, volumesWritten, writtenBy}
 use Rattle.allocation.specs.Allocate.{metersCause, allocationCause, figuresOf, refusedWith, allocationOutcome, allocateCall, allUnitSums, AllocationGives}
+use Rattle.allocation.specs.Losses.{allDroppings}
 use Rattle.allocation.specs.Helpers.{AllocatedAs, answeredWith}
 use Rattle.allocation.proofs.Steps.{metersIn, sumsIn}
 
@@ -39,9 +40,9 @@ refusal : (b : Book) (slice : List ℤ) (k : ℕ) → allocationCause b slice �
 unfolding allocateCall allocationOutcome
 refusal b slice k h = rw h (record { answer-is = refl; volumes-are = refl })
 
--- the allocation of a book that only causes 10 and 11 can refuse is the correction of its sums, with its counts
+-- the allocation of a book that only causes 10 and 11 can refuse is the correction of its sums, with its counts and its droppings
 corrected-by : (b : Book) (slice : List ℤ) (cause : ℕ) → let sums = allUnitSums (b .settings) (usedRows b) in let takeWh = b .settings .«take_wh» in
-    AllocatedAs (allocationOutcome cause b slice) (answeredWith (correctedBy cause takeWh sums) (countList (countsOf (usedRows b)))) (writtenBy cause takeWh sums slice)
+    AllocatedAs (allocationOutcome cause b slice) (answeredWith (correctedBy cause takeWh sums) (countList (countsOf (usedRows b))) (allDroppings (b .settings .shapes) (usedRows b))) (writtenBy cause takeWh sums slice)
 unfolding allocationOutcome correctedBy writtenBy answeredWith figuresOf
 corrected-by b slice zero = record { answer-is = refl; volumes-are = refl }
 corrected-by b slice (suc k) = rw (ne-eqb (suc k) accepted (λ e. omega arith)) (record { answer-is = refl; volumes-are = refl })
@@ -66,8 +67,9 @@ module _ (s : Settings) (words : List ℕ) (wf : wellFormed (lent s words) ≡ t
         unfolding allocationCause metersCause usedRows
         from-sums = rw (wf, le-ltb (length slice) units long, set, shaped)
 
-        pub way-corrected : {x : Corrected} {after : List ℤ} → CorrectionGives (s .«take_wh») (s .tolerance) (sumsIn s words) slice x after
-            → AllocatedAs (allocateCall (lent s words) slice) (answeredWith x (countList (countsOf (metersIn s words)))) after
+        pub way-corrected : {x : Corrected} {droppings after : List ℤ} → CorrectionGives (s .«take_wh») (s .tolerance) (sumsIn s words) slice x after
+            → droppings ≡ allDroppings (s .shapes) (metersIn s words)
+            → AllocatedAs (allocateCall (lent s words) slice) (answeredWith x (countList (countsOf (metersIn s words))) droppings) after
         unfolding allocateCall correctionOf volumesWritten usedRows
-        way-corrected g =
-            rw (g .answer, g .volumes, from-sums) (corrected-by (lent s words) slice (sumsCause (s .«take_wh») (s .tolerance) (sumsIn s words)))
+        way-corrected g d =
+            rw (g .answer, g .volumes, d, from-sums) (corrected-by (lent s words) slice (sumsCause (s .«take_wh») (s .tolerance) (sumsIn s words)))

@@ -18,6 +18,7 @@ use Rattle.correction.specs.Correction.{unallocatedOf, weightedTotal, netOf, we
 use Rattle.correction.specs.Volumes.{volumesOf, withVolumes}
 use Rattle.allocation.specs.declared.Allocated.{Allocated}
 use Rattle.allocation.specs.declared.AllocationAnswer.{AllocationAnswer}
+use Rattle.allocation.specs.Losses.{allDroppings, noDroppings}
 
 -- a unit's n and a
 unfoldable pub unitSums : Settings → List Row → ℕ → UnitSums
@@ -45,8 +46,8 @@ allocationCause b volumes =
     (metersCause (b .settings) (usedRows b)))
 
 -- the answer that has these figures
-abbrev pub answerOf : ℕ → ℤ → ℤ → Counts → Allocated
-answerOf number u w counts =
+abbrev pub answerOf : ℕ → ℤ → ℤ → Counts → List ℤ → Allocated
+answerOf number u w counts droppings =
     record {
       number = number;
       unallocated = u;
@@ -55,16 +56,18 @@ answerOf number u w counts =
       estimated = counts .estimated;
       defaulted = counts .defaulted;
       idle = counts .idle;
+      droppings = droppings;
     }
 
--- "An accepted allocation returns U, W and four counts"
+-- "An accepted allocation returns U, W and four counts", and "per unit, import droppings minus export droppings"
 unfoldable pub figuresOf : Settings → List Row → Allocated
 figuresOf s meters =
     answerOf accepted (unallocatedOf (s .«take_wh») (allUnitSums s meters)) (weightedTotal (allUnitSums s meters)) (countsOf meters)
+    (allDroppings (s .shapes) meters)
 
--- "number; U, W, counts 0"
+-- "number; U, W, counts 0", and droppings "0 on a refusal"
 abbrev pub refusedWith : ℕ → Allocated
-refusedWith cause = answerOf cause (pos 0) (pos 0) noCounts
+refusedWith cause = answerOf cause (pos 0) (pos 0) noCounts noDroppings
 
 -- what an allocation leaves: its answer, the book and the volume slice
 pub record Allocation : Type 0 where

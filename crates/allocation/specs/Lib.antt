@@ -1,3 +1,4 @@
 -- The allocate call.
+pub mod Losses
 pub mod Allocate
 pub mod Helpers

@@ -16,9 +16,9 @@ ghost use mathlib.Core.Path.{_≡_};
 ghost use mathlib.Core.Bool.{true};
 ghost use Rattle.book.specs.Book.{wellFormed, lent};
 ghost use Rattle.allocation.specs.Allocate.{refusedWith, allocateCall, AllocationGives};
-ghost use Rattle.allocation.specs.Helpers.{answeredWith, AllocatedAs};
+ghost use Rattle.allocation.specs.Helpers.{figuresWith, answeredWith, AllocatedAs};
 
-// A refusal's number, with U, W and the counts at 0.
+// A refusal's number, with U, W, the counts and the droppings at 0.
 pub fn refused(number: u64) -> Allocated
     ensures { λ r. ⌜ r ≡ refusedWith number ⌝ }
 {
@@ -30,25 +30,34 @@ pub fn refused(number: u64) -> Allocated
         estimated: 0,
         defaulted: 0,
         idle: 0,
+        droppings: [0; 32],
     }
 }
 
-// The answer from the figures of a correction and the four counts: a refusal's number stands beside zeros.
-fn answered(corrected: Corrected, counts: &[u64; 4]) -> Allocated
-    ensures { λ r. ⌜ r ≡ answeredWith corrected (now (counts .entry)) ⌝ }
+// The number, U and W of a correction, with these counts and droppings.
+fn figures(corrected: Corrected, counts: [u64; 4], droppings: [i64; 32]) -> Allocated
+    ensures { λ r. ⌜ r ≡ figuresWith corrected counts droppings ⌝ }
 {
-    if corrected.number != ACCEPTED {
-        return refused(corrected.number);
-    }
     Allocated {
-        number: ACCEPTED,
+        number: corrected.number,
         unallocated: corrected.unallocated,
         weighted: corrected.weighted,
         actual: counts[0],
         estimated: counts[1],
         defaulted: counts[2],
         idle: counts[3],
+        droppings,
     }
+}
+
+// The answer after a correction: the counts and the droppings go into it only if the number is 0.
+fn answered(corrected: Corrected, counts: [u64; 4], droppings: [i64; 32]) -> Allocated
+    ensures { λ r. ⌜ r ≡ answeredWith corrected counts droppings ⌝ }
+{
+    if corrected.number != ACCEPTED {
+        return figures(corrected, [0; 4], [0; 32]);
+    }
+    figures(corrected, counts, droppings)
 }
 
 // The allocation of a book that was tested before.
@@ -71,7 +80,8 @@ pub fn allocate_formed(settings: Settings, rows: &[u64], volumes: &mut [i64]) ->
     }
     let mut nets = [0i64; 32];
     let mut weighted = [0i64; 32];
-    all_units(&cells, &weights, &mut nets, &mut weighted);
+    let mut droppings = [0i64; 32];
+    all_units(&cells, &weights, &mut nets, &mut weighted, &mut droppings);
     let corrected = correct_units(
         settings.take_wh,
         settings.tolerance,
@@ -79,7 +89,7 @@ pub fn allocate_formed(settings: Settings, rows: &[u64], volumes: &mut [i64]) ->
         &weighted,
         volumes,
     );
-    answered(corrected, &counts)
+    answered(corrected, counts, droppings)
 }
 
 // Allocates the Take to the 32 units: writes the first 32 words of the volume slice, and changes nothing in the book.

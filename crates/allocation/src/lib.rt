@@ -3,7 +3,8 @@ use book::Settings;
 
 pub mod allocate;
 
-// The number given, U and W, and the four counts; zeros beside a refusal's number.
+// The number given, U and W, the four counts, and for each unit the thousandths of a Wh that rounding its losses dropped, import
+// minus export; zeros beside a refusal's number.
 #[repr(C)]
 pub struct Allocated {
     pub number: u64,
@@ -13,6 +14,7 @@ pub struct Allocated {
     pub estimated: u64,
     pub defaulted: u64,
     pub idle: u64,
+    pub droppings: [i64; 32],
 }
 
 // What the allocate call answers: its figures, and the settings as they were given.

@@ -44,11 +44,15 @@ counts-any-order (exchange {x = r} {y = o} {xs = rest}) = add-exchange (countFor
 counts-any-order (chain p q) = counts-any-order p ∙ counts-any-order q
 
 module _ {meters others : List Row} (p : Permuted Row meters others) where
-  cell-any-order : (shapes : List ℕ) (unit class : ℕ) → cell shapes meters unit class ≡ cell shapes others unit class
-  unfolding cell consumptionCell lossCell
+  pub loss-any-order : (shapes : List ℕ) (unit class : ℕ) → lossCell shapes meters unit class ≡ lossCell shapes others unit class
+  unfolding lossCell
+  loss-any-order shapes unit class = sum-over-any-order (lossIn shapes unit class) p
+
+  pub cell-any-order : (shapes : List ℕ) (unit class : ℕ) → cell shapes meters unit class ≡ cell shapes others unit class
+  unfolding cell consumptionCell
   cell-any-order shapes unit class =
       ap₂ (λ (loss consumption : ℤ). cond (isLossClass class) (nearestWh loss) consumption)
-      (sum-over-any-order (lossIn shapes unit (class - 1)) p)
+      (loss-any-order shapes unit (class - 1))
       (sum-over-any-order (energyIn shapes unit class) p)
 
   pub cells-any-order : (shapes : List ℕ) (unit : ℕ) → cellsOf shapes meters unit ≡ cellsOf shapes others unit

@@ -74,11 +74,15 @@ counts-without-charges (r ∷ meters) =
     ap₂ (λ (x : Source) (rest : Counts). addCounts (countFor x) rest) (source-kept (r .registration) (r .reading)) (counts-without-charges meters)
 
 module _ (shapes : List ℕ) (meters : List Row) (unit : ℕ) where
+  pub loss-without-charges : (class : ℕ) → lossCell shapes (map rowWithoutCharges meters) unit class ≡ lossCell shapes meters unit class
+  unfolding lossCell
+  loss-without-charges class = sum-without-charges (lossIn shapes unit class) (λ w reading. loss-in-kept w reading shapes unit class) meters
+
   cell-without-charges : (class : ℕ) → cell shapes (map rowWithoutCharges meters) unit class ≡ cell shapes meters unit class
-  unfolding cell consumptionCell lossCell
+  unfolding cell consumptionCell
   cell-without-charges class =
       ap₂ (λ (loss consumption : ℤ). cond (isLossClass class) (nearestWh loss) consumption)
-      (sum-without-charges (lossIn shapes unit (class - 1)) (λ w reading. loss-in-kept w reading shapes unit (class - 1)) meters)
+      (loss-without-charges (class - 1))
       (sum-without-charges (energyIn shapes unit class) (λ w reading. energy-in-kept w reading shapes unit class) meters)
 
   pub cells-without-charges : cellsOf shapes (map rowWithoutCharges meters) unit ≡ cellsOf shapes meters unit

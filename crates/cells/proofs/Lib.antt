@@ -8,6 +8,7 @@ pub mod Counting
 pub mod MissingShape
 pub mod Tables
 pub mod SumOver
+pub mod SumBelow
 pub mod Stored
 pub mod Counted
 pub mod OneMore

@@ -1,5 +1,5 @@
 -- What a well-formed row contributes, and where: its energy, its losses and its class.
-use Prim.Native.Nat.{ℕ, suc, _*_, _≤_, _<_}
+use Prim.Native.Nat.{ℕ, suc, _*_, _/_, _%_, _≤_, _<_}
 use mathlib.Core.Path.{_≡_, refl}
 use mathlib.Core.Bool.{Bool, true, false, _||_, cond, or-false}
 use mathlib.Core.List.{List, [], _∷_}
@@ -10,7 +10,7 @@ use lib.IntN.{pos, natAbs, _-ℤ_, _*ℤ_}
 use borrow.Author.Tests.{leb-true}
 use Rattle.integers.proofs.Linear.{linear, minus, size, one-side}
 use Rattle.integers.proofs.Size.{size-times}
-use Rattle.words.specs.Registration.{llfOf}
+use Rattle.words.specs.Registration.{directionOf, llfOf}
 use Rattle.words.proofs.RegistrationWord.{well-formed-bounds}
 use Rattle.words.proofs.ReadingWord.{reading-word-bounds}
 use Rattle.book.specs.Limits.{classes, shapeMost, shapeMissing}
@@ -44,12 +44,22 @@ loss-most llf e h =
     let k : natAbs z ≤ 1000 = omega (linear, size z, one-side z, minus (pos llf) (pos 1000)) in
     rw (size-times z (pos e)) (mul-le-mul-right e k)
 
-pub estimate-most : (x : Source) → estimateBit x ≤ 1
+estimate-most : (x : Source) → estimateBit x ≤ 1
 unfolding estimateBit
 estimate-most actualReading = omega arith
 estimate-most estimatedReading = omega arith
 estimate-most shapeDefault = omega arith
 estimate-most noEnergy = omega arith
+
+-- the class of a meter's consumption is even, and of its direction
+module _ (registration reading : ℕ) where
+  pub class-even : consumptionClass registration reading % 2 ≡ 0
+  unfolding consumptionClass
+  class-even = omega arith
+
+  pub class-direction : consumptionClass registration reading / 4 % 2 ≡ directionOf registration
+  unfolding consumptionClass
+  class-direction = omega (arith, estimate-most (sourceOf registration reading))
 
 module _ (shapes : List ℕ) (formed : allOf isShape shapes ≡ true) where
   module _ (r : Row) (words : Words r) where

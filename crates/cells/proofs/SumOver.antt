@@ -1,9 +1,9 @@
--- The sum over meters of what each gives, for whatever it gives: over two lists put together, with one meter more, with one meter changed, in any order, and how large.
+-- The sum over meters of what each gives, for whatever it gives: over two lists put together, with one meter more or changed, in any order, put through what keeps sums, and how large.
 use Prim.Native.Nat.{ℕ, _*_, _≤_}
 use mathlib.Core.Path.{_≡_, refl, sym, ap, _∙_}
 use mathlib.Core.List.{List, [], _∷_, _++_, append-nil, map-append}
 use native.Mathlib.Omega.{arith}
-use lib.IntN.{ℤ, natAbs, _+ℤ_, _-ℤ_}
+use lib.IntN.{ℤ, pos, natAbs, _+ℤ_, _-ℤ_}
 use lib.ListN.{length}
 use Rattle.integers.specs.Sum.{sum}
 use Rattle.integers.proofs.Sum.{sum-append}
@@ -59,6 +59,15 @@ module _ (f : ℕ → ℕ → ℤ) where
   pub sum-over-any-order : {xs ys : List Row} → Permuted Row xs ys → sumOver f xs ≡ sumOver f ys
   unfolding sumOver
   sum-over-any-order p = sum-any-order (mapped (λ r. f (r .registration) (r .reading)) p)
+
+  -- what keeps sums, done to the sum, is done to what each gives
+  pub sum-over-through : (h : ℤ → ℤ) → h (pos 0) ≡ pos 0 → ((a b : ℤ) → h (a +ℤ b) ≡ h a +ℤ h b)
+      → (meters : List Row) → h (sumOver f meters) ≡ sumOver (λ registration reading. h (f registration reading)) meters
+  unfolding sumOver sum
+  sum-over-through h none-kept plus-kept [] = none-kept
+  sum-over-through h none-kept plus-kept (r ∷ meters) =
+      let x = f (r .registration) (r .reading) in
+      plus-kept x (sumOver f meters) ∙ ap (λ z. h x +ℤ z) (sum-over-through h none-kept plus-kept meters)
 
   -- where each gives at most so much
   pub sum-over-most : (most : ℕ) {P : Row → Type 0} → ((r : Row) → P r → natAbs (f (r .registration) (r .reading)) ≤ most)

@@ -74,6 +74,10 @@ unfoldable pub countFrom : ℕ → ℕ → List ℕ
 countFrom k zero = []
 countFrom k (suc n) = k ∷ countFrom (suc k) n
 
+-- the sum of f at each of the numbers 0, 1, .. below n
+abbrev pub sumBelow : ℕ → (ℕ → ℤ) → ℤ
+sumBelow n f = sum (map f (countFrom 0 n))
+
 -- the 24 cells of a unit, in class order
 unfoldable pub cellsOf : List ℕ → List Row → ℕ → List ℤ
 cellsOf shapes meters unit = map (cell shapes meters unit) (countFrom 0 classes)

@@ -2,30 +2,36 @@
 use Prim.Native.Nat.{ℕ, zero, suc, _+_, _/_, _%_, _<_}
 use mathlib.Core.Path.{_≡_, refl, sym, ap}
 use mathlib.Core.Bool.{Bool, true, false, cond}
-use mathlib.Core.List.{List, [], _∷_}
+use mathlib.Core.List.{List, [], _∷_, map}
 use native.Mathlib.Omega.{arith}
 use native.Mathlib.Nat.{zero-add, le-of-suc-le-suc}
 use lib.Dec.{eqb}
 use lib.IntN.{ℤ, pos, negℤ, natAbs, _+ℤ_, _*ℤ_, +ℤ-comm, +ℤ-assoc, negℤ-+ℤ}
 use lib.ListN.{length, take, getD}
-use Rattle.integers.specs.Rounding.{nearestWh}
+use Rattle.integers.specs.Sum.{sum}
+use Rattle.integers.specs.Rounding.{nearestWh, droppedThousandths}
 use Rattle.integers.proofs.Size.{size-neg}
+use Rattle.cells.specs.Cells.{countFrom}
 use Rattle.correction.specs.Correction.{byDirection, netOf, weightedOf}
-use Rattle.correction.specs.Helpers.{wholeCell, roundedFrom}
+use Rattle.correction.specs.Helpers.{wholeCell, droppedCell, eachFrom, roundedFrom, droppedFrom}
 
-pub whole-length : (class : ℕ) (cells : List ℤ) → length (roundedFrom class cells) ≡ length cells
-unfolding roundedFrom
-whole-length class [] = refl
-whole-length class (c ∷ cells) = ap suc (whole-length (suc class) cells)
+-- a number for each cell: from any class on, and from the first
+module _ (f : ℕ → ℤ → ℤ) where
+  pub each-length : (class : ℕ) (cells : List ℤ) → length (eachFrom f class cells) ≡ length cells
+  unfolding eachFrom
+  each-length class [] = refl
+  each-length class (c ∷ cells) = ap suc (each-length (suc class) cells)
 
--- from any class on, and from the first
-whole-from : (class : ℕ) (cells : List ℤ) (i : ℕ) → i < length cells → getD (roundedFrom class cells) i (pos 0) ≡ wholeCell (class + i) (getD cells i (pos 0))
-unfolding roundedFrom
-whole-from class [] i h = absurd (omega arith)
-whole-from class (c ∷ cells) zero h = let e : class + 0 ≡ class = omega arith in rw e
-whole-from class (c ∷ cells) (suc i) h =
-    let e : class + suc i ≡ suc class + i = omega arith in
-    rw e (whole-from (suc class) cells i (le-of-suc-le-suc h))
+  each-from : (class : ℕ) (cells : List ℤ) (i : ℕ) → i < length cells → getD (eachFrom f class cells) i (pos 0) ≡ f (class + i) (getD cells i (pos 0))
+  unfolding eachFrom
+  each-from class [] i h = absurd (omega arith)
+  each-from class (c ∷ cells) zero h = let e : class + 0 ≡ class = omega arith in rw e
+  each-from class (c ∷ cells) (suc i) h =
+      let e : class + suc i ≡ suc class + i = omega arith in
+      rw e (each-from (suc class) cells i (le-of-suc-le-suc h))
+
+  each-entry : (cells : List ℤ) (i : ℕ) → i < length cells → getD (eachFrom f 0 cells) i (pos 0) ≡ f i (getD cells i (pos 0))
+  each-entry cells i h = rw zero-add at (each-from 0 cells i h)
 
 net-from : (class : ℕ) (cells : List ℤ) (i : ℕ) → i < length cells
     → netOf class (take (suc i) cells) ≡ netOf class (take i cells) +ℤ byDirection (class + i) (getD cells i (pos 0))
@@ -39,12 +45,14 @@ net-from class (c ∷ cells) (suc i) h =
     rw (e, net-from (suc class) cells i (le-of-suc-le-suc h))
     (sym (+ℤ-assoc (byDirection class c) (netOf (suc class) (take i cells)) (byDirection (suc class + i) (getD cells i (pos 0)))))
 
-module _ (cells : List ℤ) (i : ℕ) (h : i < length cells) where
-  whole-entry : getD (roundedFrom 0 cells) i (pos 0) ≡ wholeCell i (getD cells i (pos 0))
-  whole-entry = rw zero-add at (whole-from 0 cells i h)
+pub net-next : (cells : List ℤ) (i : ℕ) → i < length cells → netOf 0 (take (suc i) cells) ≡ netOf 0 (take i cells) +ℤ byDirection i (getD cells i (pos 0))
+net-next cells i h = rw zero-add at (net-from 0 cells i h)
 
-  pub net-next : netOf 0 (take (suc i) cells) ≡ netOf 0 (take i cells) +ℤ byDirection i (getD cells i (pos 0))
-  net-next = rw zero-add at (net-from 0 cells i h)
+-- n of numbers worked out at each class, as a sum
+pub net-counted : (f : ℕ → ℤ) (k n : ℕ) → netOf k (map f (countFrom k n)) ≡ sum (map (λ class. byDirection class (f class)) (countFrom k n))
+unfolding netOf sum countFrom
+net-counted f k zero = refl
+net-counted f k (suc n) = ap (λ z. byDirection k (f k) +ℤ z) (net-counted f (suc k) n)
 
 pub weighted-next : (cells : List ℤ) (weights : List ℕ) (i : ℕ) → i < length cells → i < length weights
     → weightedOf (take (suc i) cells) weights ≡ weightedOf (take i cells) weights +ℤ getD cells i (pos 0) *ℤ pos (getD weights i 0)
@@ -64,15 +72,22 @@ direction-size class c = by (eqb (class / 4 % 2) 0)
     by true = refl
     by false = size-neg c
 
--- a pair of classes, consumption and the losses after it: what is rounded, and their one direction
+-- a pair of classes, consumption and the losses after it: what is rounded, what is dropped, and their one direction
 module _ (cells : List ℤ) (i : ℕ) (even : i % 2 ≡ 0) where
+  odd : (i + 1) % 2 ≡ 1
+  odd = omega arith
+
   pub used-entry : i < length cells → getD (roundedFrom 0 cells) i (pos 0) ≡ getD cells i (pos 0)
-  used-entry h = rw (whole-entry cells i h, even)
+  used-entry h = rw (each-entry wholeCell cells i h, even)
 
   pub lost-entry : i + 1 < length cells → getD (roundedFrom 0 cells) (i + 1) (pos 0) ≡ nearestWh (getD cells (i + 1) (pos 0))
-  lost-entry h =
-      let odd : (i + 1) % 2 ≡ 1 = omega arith in
-      rw (whole-entry cells (i + 1) h, odd)
+  lost-entry h = rw (each-entry wholeCell cells (i + 1) h, odd)
+
+  pub none-dropped : i < length cells → getD (droppedFrom 0 cells) i (pos 0) ≡ pos 0
+  none-dropped h = rw (each-entry droppedCell cells i h, even)
+
+  pub loss-dropped : i + 1 < length cells → getD (droppedFrom 0 cells) (i + 1) (pos 0) ≡ droppedThousandths (getD cells (i + 1) (pos 0))
+  loss-dropped h = rw (each-entry droppedCell cells (i + 1) h, odd)
 
 direction-pair : (class : ℕ) (a b : ℤ) → class % 2 ≡ 0 → byDirection class (a +ℤ b) ≡ byDirection class a +ℤ byDirection (suc class) b
 direction-pair class a b even =

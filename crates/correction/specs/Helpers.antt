@@ -6,10 +6,11 @@ use mathlib.Core.List.{List, [], _∷_, map}
 use lib.IntN.{ℤ, pos, natAbs}
 use lib.ListN.{length, getD}
 use lib.Signed.{_<ℤ_}
-use Rattle.integers.specs.Rounding.{nearestWh}
+use Rattle.integers.specs.Rounding.{nearestWh, droppedThousandths}
 use Rattle.book.specs.Limits.{classes}
 use Rattle.cells.specs.Cells.{isLossClass, units}
 use Rattle.correction.specs.declared.UnitSums.{UnitSums}
+use Rattle.correction.specs.declared.UnitFigures.{UnitFigures}
 use Rattle.correction.specs.Correction.{netOf, weightedOf, netIn, weightedIn, unallocatedOf, weightedTotal, shareFloor, shareFraction}
 use Rattle.correction.specs.Outcome.{pairsOf}
 
@@ -17,14 +18,33 @@ use Rattle.correction.specs.Outcome.{pairsOf}
 abbrev pub wholeCell : ℕ → ℤ → ℤ
 wholeCell class c = cond (isLossClass class) (nearestWh c) c
 
--- the raw cells of a unit, from a class on, with the losses rounded
-unfoldable pub roundedFrom : ℕ → List ℤ → List ℤ
-roundedFrom class [] = []
-roundedFrom class (c ∷ cells) = wholeCell class c ∷ roundedFrom (suc class) cells
+-- what rounding it drops: of a loss, and nothing of a consumption
+abbrev pub droppedCell : ℕ → ℤ → ℤ
+droppedCell class c = cond (isLossClass class) (droppedThousandths c) (pos 0)
+
+-- a number for each raw cell of a unit, from a class on
+unfoldable pub eachFrom : (ℕ → ℤ → ℤ) → ℕ → List ℤ → List ℤ
+eachFrom f class [] = []
+eachFrom f class (c ∷ cells) = f class c ∷ eachFrom f (suc class) cells
+
+-- the raw cells of a unit, from a class on, with the losses rounded; and what was dropped
+abbrev pub roundedFrom : ℕ → List ℤ → List ℤ
+roundedFrom class cells = eachFrom wholeCell class cells
+
+abbrev pub droppedFrom : ℕ → List ℤ → List ℤ
+droppedFrom class cells = eachFrom droppedCell class cells
 
 -- n and a of a unit from its raw cells
 abbrev pub sumsOf : List ℤ → List ℕ → UnitSums
 sumsOf cells weights = record { net = netOf 0 (roundedFrom 0 cells); weighted = weightedOf (roundedFrom 0 cells) weights }
+
+-- its droppings: import minus export
+abbrev pub droppingsOf : List ℤ → ℤ
+droppingsOf cells = netOf 0 (droppedFrom 0 cells)
+
+-- the two together
+abbrev pub unitFiguresOf : List ℤ → List ℕ → UnitFigures
+unitFiguresOf cells weights = record { sums = sumsOf cells weights; droppings = droppingsOf cells }
 
 -- what `unit_sums` is held to: cells of a size that all cells together may reach, once rounded, and weights in range
 pub record UnitArguments (cells : List ℤ) (weights : List ℕ) : Type 0 where
@@ -33,16 +53,18 @@ pub record UnitArguments (cells : List ℤ) (weights : List ℕ) : Type 0 where
   pub cells-bound : (k : ℕ) → natAbs (getD (roundedFrom 0 cells) k (pos 0)) ≤ 1400000000000
   pub weights-bound : (k : ℕ) → getD weights k 0 ≤ 1000
 
-pub record AllUnitsArguments (table : List (List ℤ)) (weights : List ℕ) (nets weighted : List ℤ) : Type 0 where
+pub record AllUnitsArguments (table : List (List ℤ)) (weights : List ℕ) (nets weighted droppings : List ℤ) : Type 0 where
   pub rows-long : length table ≡ units
   pub nets-long : length nets ≡ units
   pub weighted-long : length weighted ≡ units
+  pub droppings-long : length droppings ≡ units
   pub each : (unit : ℕ) → unit < units → UnitArguments (getD table unit []) weights
 
--- what `all_units` gives: n and a of each row of the table
-pub record AllUnits (table : List (List ℤ)) (weights : List ℕ) (nets weighted : List ℤ) : Type 0 where
+-- what `all_units` gives: n, a and the droppings of each row of the table
+pub record AllUnits (table : List (List ℤ)) (weights : List ℕ) (nets weighted droppings : List ℤ) : Type 0 where
   pub nets-are : nets ≡ map (λ cells. netIn (sumsOf cells weights)) table
   pub weighted-are : weighted ≡ map (λ cells. weightedIn (sumsOf cells weights)) table
+  pub droppings-are : droppings ≡ map droppingsOf table
 
 -- what `total` is held to
 pub record TotalArguments (xs : List ℤ) : Type 0 where

@@ -9,6 +9,12 @@ pub struct UnitSums {
     pub weighted: i64,
 }
 
+// What the cells of a unit come to: its n and a, and the thousandths of a Wh that rounding its losses dropped, import minus export.
+pub struct UnitFigures {
+    pub sums: UnitSums,
+    pub droppings: i64,
+}
+
 // What a correction answers: its number, U and W; zeros beside a refusal's number.
 pub struct Corrected {
     pub number: u64,

@@ -1,7 +1,7 @@
 -- Quotients by a number above 0 as the processor makes them, cut toward zero, and what those rounded down are then: where the remainder,
 -- which has the sign of x, is below 0, the floor is one less, and the fraction d more.
 use Prim.Native.Nat.{ℕ, suc, _*_, _/_, _%_, _<_}
-use mathlib.Core.Path.{_≡_, sym, ap}
+use mathlib.Core.Path.{_≡_, refl, sym, ap}
 use native.Mathlib.Omega.{arith}
 use native.Mathlib.Nat.{mod-lt, div-add-mod', div-le-self}
 use lib.IntN.{ℤ, pos, negsuc, natAbs, negℤ, _+ℤ_, _-ℤ_, _*ℤ_}
@@ -14,16 +14,21 @@ use Rattle.integers.proofs.Ring.{neg-times, minus-times}
 use Rattle.integers.proofs.Size.{size-neg}
 use Rattle.integers.proofs.Floor.{floor-fits, floor-unique, fraction-unique}
 
-cut-whole : (x : ℤ) (d : ℕ) → x ≡ quotZ x (pos d) *ℤ pos d +ℤ remZ x (pos d)
+pub cut-whole : (x : ℤ) (d : ℕ) → x ≡ quotZ x (pos d) *ℤ pos d +ℤ remZ x (pos d)
 cut-whole (pos n) d = ap pos (sym (div-add-mod' n d))
 cut-whole (negsuc n) d =
     let q = pos (suc n / d * d) in
     let r = pos (suc n % d) in
     rw (neg-times (pos (suc n / d)) (pos d)) (omega (linear, div-add-mod' (suc n) d, opposite q, opposite r, plus (negℤ q) (negℤ r)))
 
-cut-left : (x : ℤ) (d : ℕ) → 0 < d → natAbs (remZ x (pos d)) < d
+pub cut-left : (x : ℤ) (d : ℕ) → 0 < d → natAbs (remZ x (pos d)) < d
 cut-left (pos n) d p = mod-lt n p
 cut-left (negsuc n) d p = omega (arith, size-neg (pos (suc n % d)), mod-lt (suc n) p)
+
+-- how large a quotient is
+pub cut-size : (x : ℤ) (d : ℕ) → natAbs (quotZ x (pos d)) ≡ natAbs x / d
+cut-size (pos n) d = refl
+cut-size (negsuc n) d = size-neg (pos (suc n / d))
 
 -- both are in the range of an i64 if x is
 pub cut-fits : (x : ℤ) (d : ℕ) → SFits w64 x → SFits w64 (quotZ x (pos d))

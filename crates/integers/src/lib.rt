@@ -4,7 +4,7 @@ ghost use Prim.Native.Nat.{_≤_, _*_, _/_, _^_};
 ghost use lib.IntN.{pos, natAbs, _+ℤ_, _*ℤ_};
 ghost use lib.Signed.{_<ℤ_};
 ghost use Rattle.integers.specs.Quotient.{quotientOf};
-ghost use Rattle.integers.specs.Rounding.{nearestWh};
+ghost use Rattle.integers.specs.Rounding.{roundedOf};
 ghost use Rattle.integers.specs.Helpers.{ShareArguments, DigitArguments};
 
 // A quotient rounded down, and the fraction above it, times the divisor.
@@ -33,14 +33,24 @@ fn floor_quotient(x: i64, d: i64) -> Quotient
     }
 }
 
-// Thousandths of a Wh as whole Wh: the nearest, halves away from zero. Halves are counted first, so that no sum leaves the range,
-// and one more of the same sign is added without a branch: the processor could not guess the signs of losses.
-pub fn nearest_wh(thousandths: i64) -> i64
-    ensures { λ r. ⌜ r ≡ nearestWh thousandths ⌝ }
+// Thousandths of a Wh rounded: the whole Wh, and the thousandths that were dropped.
+pub struct Rounded {
+    pub wh: i64,
+    pub dropped: i64,
+}
+
+// Thousandths of a Wh to the nearest Wh, halves away from zero, and what is dropped so. The remainder has the sign of the
+// thousandths: half a Wh or more of it is one Wh more of that sign. No product leaves the range, since the rounded Wh, whose
+// thousandths could, are not multiplied; and there is no branch, since the processor could not guess the signs of losses.
+pub fn nearest_wh(thousandths: i64) -> Rounded
+    ensures { λ r. ⌜ r ≡ roundedOf thousandths ⌝ }
 {
-    let halves = thousandths / 500;
-    let away = if thousandths < 0 { -1 } else { 1 };
-    (halves + away) / 2
+    let rest = thousandths % 1000;
+    let away = rest / 500;
+    Rounded {
+        wh: thousandths / 1000 + away,
+        dropped: rest - 1000 * away,
+    }
 }
 
 // The size of x. That of the least i64 is no i64, so 1 is added after the cast.

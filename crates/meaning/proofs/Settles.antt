@@ -1,5 +1,5 @@
 -- Demand 3: every whole list of calls from a fresh book, and the accepted allocation after it. Making the calls gives what the list means, an allocation
--- does not depend on the order of the meters, and an accepted one carries the Take with each volume under 1 Wh from its share. Assumes nothing.
+-- does not depend on the order of the meters, and an accepted one carries the Take with each volume under 1 Wh from its share and tells what its losses dropped. Assumes nothing.
 use Prim.Native.Nat.{ℕ, _≤_, _<_}
 use mathlib.Core.Path.{_≡_, sym, _∙_, ap, ap₂, subst, subst₂}
 use mathlib.Core.Bool.{not}
@@ -23,9 +23,10 @@ use Rattle.correction.specs.declared.UnitSums.{UnitSums}
 use Rattle.correction.specs.Correction.{weightedTotal}
 use Rattle.correction.specs.Volumes.{volumesOf}
 use Rattle.correction.proofs.Apportioned.{numeratorsOf}
+use Rattle.allocation.specs.Losses.{LossesReconciled}
 use Rattle.allocation.specs.Allocate.{allUnitSums, metersCause, allocationCause, figuresOf, allocateCall}
-use Rattle.allocation.proofs.AnyOrder.{sums-any-order, cause-any-order, figures-any-order}
-use Rattle.allocation.proofs.Outcome.{sumsOf, number-given, accepted-answer, accepted-volumes, accepted-total, accepted-distance}
+use Rattle.allocation.proofs.AnyOrder.{sums-any-order, cause-any-order, figures-any-order, reconciled-any-order}
+use Rattle.allocation.proofs.Outcome.{sumsOf, number-given, accepted-answer, accepted-losses, accepted-volumes, accepted-total, accepted-distance}
 use Rattle.meaning.specs.Meaning.{meantTake, meantMpans, meantMeters, meantSettings}
 use Rattle.meaning.specs.Moves.{EarliestKept}
 use Rattle.meaning.specs.Demand.{allocationAfter, meantSums, meantNumerators, countsAnswered, AllocatedAlike, Demand3}
@@ -98,6 +99,11 @@ module _ (words : List ℕ) (calls : List Call) where
         ∙ counts-total (meantMeters (capacity words) calls)
         ∙ length-meters (capacity words) calls
 
+    losses-meant : LossesReconciled (meantSettings (capacity words) calls .shapes) (meantMeters (capacity words) calls) (allocateCall made slice .answer .droppings)
+    losses-meant =
+        subst (λ (s : Settings). LossesReconciled (s .shapes) (meantMeters (capacity words) calls) (allocateCall made slice .answer .droppings)) (means .settings-meant)
+        (reconciled-any-order (means .meters-meant) (made .settings .shapes) (accepted-losses made slice h))
+
 -- a list whose readings stand elsewhere is accepted too, with the same answer and volumes
 module _ (words : List ℕ) (calls : List Call) (slice : List ℤ) (h : allocateCall (made words calls) slice .answer .number ≡ accepted)
     (words′ : List ℕ) (calls′ : List Call) (slice′ : List ℤ) (long : length words′ ≡ length words) (room : units ≤ length slice′)
@@ -153,6 +159,7 @@ demand-3 words calls slice h =
         figures = answer-meant words calls slice h;
         distance = distance-meant words calls slice h;
         meters = meters-counted words calls slice h;
+        losses = losses-meant words calls slice h;
       };
       moved = λ words′ calls′ slice′ long room same. alike words calls slice h words′ calls′ slice′ long room (earliest-kept same);
       moved-further = alike words calls slice h;

@@ -34,6 +34,8 @@ pub data Figure : Type 0 where
   weightedIs : ℤ → Figure
   -- the four counts: actual, estimated, defaulted, idle
   countsAre : List ℕ → Figure
+  -- a unit's droppings, in thousandths of a Wh
+  droppingsAre : (unit : ℕ) → ℤ → Figure
   -- the four totals of import, embedded network 0 and tariff 0: actual Wh, other Wh, energised and de-energised meters
   totalsAre : List ℕ → Figure
 
@@ -68,6 +70,7 @@ figureHolds x (unallocatedIs u) = same (x .answer .unallocated) u
 figureHolds x (weightedIs w) = same (x .answer .weighted) w
 figureHolds x (countsAre counts) =
     sameNumbers (x .answer .actual ∷ x .answer .estimated ∷ x .answer .defaulted ∷ x .answer .idle ∷ []) counts
+figureHolds x (droppingsAre unit thousandths) = same (getD (x .answer .droppings) unit (pos 0)) thousandths
 figureHolds x (totalsAre totals) = sameNumbers (tariffTotals (x .shapes) (x .meters) 0 0 0) totals
 
 unfoldable pub figuresHold : Worked → List Figure → Bool
@@ -278,6 +281,54 @@ codeCases =
     ∷ deEnergisedCase 13 12
     ∷ []
 
+-- document 02, request 3: weights 8, 9, 12 and 13 at 1,000, and a Take
+abbrev pub bothWays : ℤ → List Call
+bothWays takeWh = weights ++ Set (Weight 12 1000) ∷ Set (Weight 13 1000) ∷ Set (GroupTake takeWh) ∷ []
+
+-- a smart meter of unit 0, by direction and LLF, with so many Wh of code 0
+abbrev pub losing : (mpan direction llf wh : ℕ) → List Call
+losing mpan direction llf wh = meter mpan 1 direction 0 llf ∷ actual mpan wh ∷ []
+
+-- "how many thousandths of a Wh it dropped": of unit 0, and none of a unit without meters
+unfoldable pub droppingCases : List Case
+droppingCases =
+    -- 15: import, 10 Wh at 1,050: 500 thousandths are 1 Wh and drop −500
+    record {
+      calls = bothWays (pos 11) ++ losing 1200000000002 0 1050 10;
+      figures = allocationGives 0 ∷ cellIs 0 9 (pos 1) ∷ droppingsAre 0 (negℤ (pos 500)) ∷ droppingsAre 1 (pos 0) ∷ [];
+    }
+    -- 16: at 950: −500 are −1 Wh and drop 500
+    ∷ record {
+      calls = bothWays (pos 9) ++ losing 1200000000002 0 950 10;
+      figures = allocationGives 0 ∷ cellIs 0 9 (negℤ (pos 1)) ∷ droppingsAre 0 (pos 500) ∷ [];
+    }
+    -- 17: export at 1,050: what is dropped is subtracted
+    ∷ record {
+      calls = bothWays (negℤ (pos 11)) ++ losing 1200000000002 1 1050 10;
+      figures = allocationGives 0 ∷ cellIs 0 13 (pos 1) ∷ droppingsAre 0 (pos 500) ∷ [];
+    }
+    -- 18: 499 thousandths are 0 Wh and drop 499
+    ∷ record {
+      calls = bothWays (pos 499) ++ losing 1200000000002 0 1001 499;
+      figures = allocationGives 0 ∷ cellIs 0 9 (pos 0) ∷ droppingsAre 0 (pos 499) ∷ [];
+    }
+    -- 19: import of case 15, and export of 7 Wh at 1,060, whose 420 thousandths are 0 Wh: −500 less 420, so that 1 Wh and −920 are 500 less 420
+    ∷ record {
+      calls = bothWays (pos 4) ++ losing 1200000000002 0 1050 10 ++ losing 1300000000007 1 1060 7;
+      figures = allocationGives 0 ∷ cellIs 0 9 (pos 1) ∷ cellIs 0 13 (pos 0) ∷ droppingsAre 0 (negℤ (pos 920)) ∷ [];
+    }
+    -- 20: two meters of case 15 in one cell: 1,000 thousandths are 1 Wh and drop none
+    ∷ record {
+      calls = bothWays (pos 21) ++ losing 1200000000002 0 1050 10 ++ losing 1300000000007 0 1050 10;
+      figures = allocationGives 0 ∷ cellIs 0 9 (pos 1) ∷ droppingsAre 0 (pos 0) ∷ [];
+    }
+    -- 21: case 15 with a Take of 12 Wh and g = 90: refusal 11, and "0 on a refusal"
+    ∷ record {
+      calls = bothWays (pos 12) ++ losing 1200000000002 0 1050 10 ++ Set (Tolerance 90) ∷ [];
+      figures = allocationGives 11 ∷ cellIs 0 9 (pos 1) ∷ droppingsAre 0 (pos 0) ∷ [];
+    }
+    ∷ []
+
 -- the table of worked cases
 abbrev pub workedCases : List Case
-workedCases = cases ++ codeCases
+workedCases = cases ++ (codeCases ++ droppingCases)

@@ -16,6 +16,7 @@ use Rattle.correction.specs.declared.UnitSums.{UnitSums}
 use Rattle.correction.specs.Correction.{unallocatedOf, weightedTotal, shareNumerator}
 use Rattle.correction.specs.Volumes.{volumesOf}
 use Rattle.allocation.specs.declared.Allocated.{Allocated}
+use Rattle.allocation.specs.Losses.{LossesReconciled}
 use Rattle.allocation.specs.Allocate.{allUnitSums, Allocation, allocateCall, figuresOf}
 use Rattle.meaning.specs.Meaning.{meantTake, meantMpans, meantMeters, meantSettings}
 use Rattle.meaning.specs.Moves.{ReadingsMoved, EarliestKept}
@@ -54,6 +55,8 @@ pub record ListSettled (words : List ℕ) (calls : List Call) (answer : Allocate
       < natAbs (weightedTotal (meantSums (capacity words) calls))
   -- "the four counts add up to the number of different meters accepted"
   pub meters : countsAnswered answer ≡ length (meantMpans (capacity words) calls)
+  -- document 02, request 3: "rounded losses plus droppings equal its meters' exact losses" for each unit, worked from the list
+  pub losses : LossesReconciled (meantSettings (capacity words) calls .shapes) (meantMeters (capacity words) calls) (answer .droppings)
 
 -- "changes nothing": the second allocation is accepted, with the same answer and the same volumes
 pub record AllocatedAlike (first second : Allocation) : Type 0 where

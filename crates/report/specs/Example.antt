@@ -10,7 +10,7 @@ unfoldable pub joined : List (List ℕ) → List ℕ
 joined [] = []
 joined (line ∷ lines) = line ++ joined lines
 
--- case 1: U 1, W 300,000, three meters with an actual reading
+-- case 1: U 1, W 300,000, three meters with an actual reading, and no losses
 abbrev pub caseOne : Allocated
 caseOne =
     record {
@@ -21,6 +21,7 @@ caseOne =
       estimated = 0;
       defaulted = 0;
       idle = 0;
+      droppings = replicate 32 (pos 0);
     }
 
 abbrev pub caseOneVolumes : List ℤ

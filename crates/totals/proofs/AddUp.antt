@@ -1,5 +1,5 @@
 -- What the totals of a well-formed book add up to: the consumption cells of a direction, and the meters that are not idle.
-use Prim.Native.Nat.{ℕ, _+_, _-_, _*_, _/_, _%_, _<_}
+use Prim.Native.Nat.{ℕ, _+_, _-_, _/_, _%_, _<_}
 use mathlib.Core.Path.{_≡_, refl, sym, ap, ap₂, _∙_, fun-ext}
 use mathlib.Core.Bool.{Bool, true, false, not, _&&_, cond, and-true, true≢false}
 use mathlib.Core.List.{List, [], _∷_}
@@ -10,7 +10,7 @@ use borrow.Author.Tests.{eqb-true, eq-eqb, ne-eqb}
 use Rattle.integers.specs.Sum.{sum}
 use Rattle.integers.specs.Rounding.{nearestWh}
 use Rattle.words.specs.Limits.{directionMost}
-use Rattle.words.specs.Registration.{segmentOf, directionOf, statusOf, networkOf, tariffOf, unitOf}
+use Rattle.words.specs.Registration.{directionOf, statusOf, networkOf, tariffOf, unitOf}
 use Rattle.words.proofs.Tests.{by-test}
 use Rattle.words.proofs.RegistrationWord.{unit-bound}
 use Rattle.book.specs.Limits.{classes}
@@ -18,14 +18,15 @@ use Rattle.book.specs.Rows.{Row}
 use Rattle.book.specs.Book.{Book, usedRows, wellFormed}
 use Rattle.book.proofs.WellFormed.{formed-book, formed-settings}
 use Rattle.cells.specs.Energy.{Source, actualReading, estimatedReading, shapeDefault, noEnergy, sourceOf, energyFrom, energyWh, energised, deEnergised, Counts, countFor, countsOf, addCounts}
-use Rattle.cells.specs.Cells.{units, sumOver, isLossClass, energyIn, inCell, consumptionClass, consumptionCell, lossCell, cell, estimateBit}
+use Rattle.cells.specs.Cells.{units, sumOver, sumBelow, isLossClass, energyIn, inCell, consumptionClass, consumptionCell, lossCell, cell}
 use Rattle.cells.proofs.Each.{Each}
-use Rattle.cells.proofs.RowBounds.{RowBounds, rows-bounds, estimate-most}
+use Rattle.cells.proofs.RowBounds.{RowBounds, rows-bounds, class-even, class-direction}
+use Rattle.cells.proofs.SumOver.{sum-over-through}
+use Rattle.cells.proofs.SumBelow.{sum-below-same, sum-below-place, sum-below-over, sum-below-only, sum-over-same}
 use Rattle.totals.specs.Totals.{tariffs, networks, isCharged, actualFrom, otherFrom, actualWh, otherWh, isIdle, oneOf, sumWhere}
-use Rattle.totals.specs.Laws.{sumBelow, wordFor, whOverAll, isConsumptionOf, cellsOverAll, metersOverAll, TotalsAddUp}
+use Rattle.totals.specs.Laws.{wordFor, whOverAll, isConsumptionOf, cellsOverAll, metersOverAll, TotalsAddUp}
 use Rattle.totals.proofs.TotalAt.{wordGives, total-sum}
 use Rattle.totals.proofs.OneMore.{used-status}
-use Rattle.totals.proofs.SumBelow.{sum-below-same, sum-below-place, sum-below-over, sum-below-only, sum-over-same}
 
 -- totals as sums over meters
 
@@ -88,9 +89,7 @@ all-energy shapes registration reading = by (sourceOf registration reading)
     by noEnergy = omega arith
 
 sum-over-zeros : (meters : List Row) → sumOver (λ registration reading. pos 0) meters ≡ pos 0
-unfolding sumOver sum
-sum-over-zeros [] = refl
-sum-over-zeros (r ∷ meters) = ap (λ z. pos 0 +ℤ z) (sum-over-zeros meters)
+sum-over-zeros meters = sym (sum-over-through (λ registration reading. pos 0) (λ z. pos 0) refl (λ a b. refl) meters)
 
 -- two tests of one amount, in either order; and an amount at another place
 swap : (s d : Bool) (e : ℤ) → cond d (cond (s && true) e (pos 0)) (pos 0) ≡ cond (s && true) (cond d e (pos 0)) (pos 0)
@@ -151,14 +150,8 @@ module _ (shapes : List ℕ) (direction : ℕ) where
 
   -- the class of a meter's consumption is of its direction
   class-of : (registration reading : ℕ) → isConsumptionOf direction (consumptionClass registration reading) ≡ eqb (directionOf registration) direction
-  unfolding consumptionClass
   class-of registration reading =
-      let e = estimateBit (sourceOf registration reading) in
-      let k = 8 * segmentOf registration + 4 * directionOf registration + 2 * e in
-      let few = estimate-most (sourceOf registration reading) in
-      let d : k / 4 % 2 ≡ directionOf registration = omega arith in
-      let even : k % 2 ≡ 0 = omega arith in
-      rw (d, eq-eqb (k % 2) 0 even) (and-true (eqb (directionOf registration) direction))
+      rw (class-direction registration reading, class-even registration reading) (and-true (eqb (directionOf registration) direction))
 
   -- a meter counts in one of these cells, that of its unit and its class
   cell-once : (r : Row) → RowBounds shapes r

@@ -6,5 +6,4 @@ pub mod OneMore
 -- the totals call
 pub mod Ways
 -- what the totals of a book add up to
-pub mod SumBelow
 pub mod AddUp

@@ -2,21 +2,15 @@
 use Prim.Native.Nat.{ℕ, _+_, _*_, _/_, _%_}
 use mathlib.Core.Path.{_≡_}
 use mathlib.Core.Bool.{Bool, _&&_, cond}
-use mathlib.Core.List.{map}
 use lib.Dec.{eqb}
 use lib.IntN.{ℤ, pos}
 use lib.ListN.{getD}
-use Rattle.integers.specs.Sum.{sum}
 use Rattle.words.specs.Limits.{directionMost}
 use Rattle.book.specs.Limits.{classes}
 use Rattle.book.specs.Book.{Book, usedRows}
 use Rattle.cells.specs.Energy.{countsOf}
-use Rattle.cells.specs.Cells.{units, countFrom, cell}
+use Rattle.cells.specs.Cells.{units, sumBelow, cell}
 use Rattle.totals.specs.Totals.{tariffs, networks, bookTotals}
-
--- the sum of f at each of the numbers 0, 1, .. below n
-abbrev pub sumBelow : ℕ → (ℕ → ℤ) → ℤ
-sumBelow n f = sum (map f (countFrom 0 n))
 
 -- the k-th of the four words that the totals call writes for a tariff
 abbrev pub wordFor : Book → ℕ → ℕ → ℕ → ℕ → ℕ

@@ -1,88 +1,126 @@
--- `nearest_wh` meets its contract, by the sign: both quotients are toward zero, so that half a Wh more of the same sign goes away from it.
-use mathlib.Core.Path.{_≡_, ap, _∙_}
-use mathlib.Core.Logic.{⊎-elim}
-use Prim.Native.Nat.{ℕ, suc, _+_, _/_, _≤_}
-use lib.IntN.{ℤ, pos, negsuc, negℤ, natAbs, _+ℤ_}
-use lib.Signed.{_≤ℤ_, _<ℤ_, quotZ, natAbs-le}
+-- `nearest_wh` meets its contract: the remainder, cut at half a Wh, is the Wh that rounding adds, and its thousandths go from what is dropped. Assumes nothing.
+use mathlib.Core.Path.{_≡_, refl, ap, ap₂, _∙_}
+use Prim.Native.Nat.{ℕ, zero, suc, _+_, _*_, _/_, _%_, _^_, _≤_, _<_}
+use lib.IntN.{ℤ, pos, negsuc, negℤ, natAbs, _+ℤ_, _-ℤ_, _*ℤ_, *ℤ-comm}
+use lib.Signed.{quotZ, remZ, natAbs-le}
 use lib.Dec.{lit<}
 use native.Mathlib.Omega.{arith}
+use native.Mathlib.Nat.{div-le-self, le-refl}
 use mir.Syntax.{w64}
 use mir.Val.{SFits, toZ, ofZ}
 use mir.ValLaws.{toZ-ofZ}
-use Rattle.integers.specs.Rounding.{nearestWh}
-use Rattle.integers.proofs.Linear.{linear, plus, opposite, size}
-use Rattle.integers.proofs.Fit.{Held, held, held-literal, plus-fits, plus-held, tested-lt, tested-ge}
-use Rattle.integers.proofs.Cut.{cut-fits}
-use Rattle.integers.proofs.Nearest.{nearest-size}
+use Rattle.integers.specs.Rounding.{nearestWh, droppedThousandths, roundedOf}
+use Rattle.integers.proofs.Linear.{linear, plus, minus, opposite}
+use Rattle.integers.proofs.Ring.{times-plus}
+use Rattle.integers.proofs.Fit.{fit, Held, held, plus-fits, plus-held, minus-fits, minus-held}
+use Rattle.integers.proofs.Size.{times-bound}
+use Rattle.integers.proofs.Cut.{cut-whole, cut-left, cut-size, cut-fits}
 use Rattle.integers.proofs.nearest_wh.Statement.{statement}
 use Rattle.integers.proofs.nearest_wh.Tie as tie
 
--- halves of a Wh, and one of the same sign
-abbrev halves : ℤ → ℤ
-halves t = quotZ t (pos 500)
+abbrev whole : ℤ → ℤ
+whole t = quotZ t (pos 1000)
+
+abbrev rest : ℤ → ℤ
+rest t = remZ t (pos 1000)
 
 abbrev away : ℤ → ℤ
-away (pos n) = pos 1
-away (negsuc n) = negsuc 0
+away t = quotZ (rest t) (pos 500)
 
--- as the code holds it
-away-below : (t : ℤ) (a : ℕ) → t <ℤ pos 0 → a ≡ ofZ w64 (negsuc 0) → Held a (away t) 1
-away-below (pos n) a s e = absurd (omega linear)
-away-below (negsuc n) a s e = rw e (held (negsuc 0) 1 (omega arith) (lit< tt))
+-- below zero the remainder is cut as its size is
+halved : (m : ℕ) → quotZ (negℤ (pos m)) (pos 500) ≡ negℤ (pos (m / 500))
+halved zero = refl
+halved (suc m) = refl
 
-away-above : (t : ℤ) (a : ℕ) → pos 0 ≤ℤ t → a ≡ 1 → Held a (away t) 1
-away-above (pos n) a s e = rw e (held-literal 1 (lit< tt))
-away-above (negsuc n) a s e = absurd (omega linear)
-
-one-down : (a : ℕ) → negℤ (pos a) +ℤ negsuc 0 ≡ negsuc a
-one-down a = omega (linear, plus (negℤ (pos a)) (negsuc 0), opposite (pos a))
-
-rounded : (t : ℤ) → quotZ (halves t +ℤ away t) (pos 2) ≡ nearestWh t
+rounded : (t : ℤ) → whole t +ℤ away t ≡ nearestWh t
 unfolding nearestWh
-rounded (pos n) = let e : (n / 500 + 1) / 2 ≡ (n + 500) / 1000 = omega arith in ap pos e
+rounded (pos n) = let e : n / 1000 + n % 1000 / 500 ≡ (n + 500) / 1000 = omega arith in ap pos e
 rounded (negsuc n) =
-    let e : suc (suc n / 500) / 2 ≡ (suc n + 500) / 1000 = omega arith in
-    ap (λ z. quotZ z (pos 2)) (one-down (suc n / 500)) ∙ ap (λ k. negℤ (pos k)) e
+    let q = pos (suc n / 1000) in
+    let r = pos (suc n % 1000 / 500) in
+    let e : suc n / 1000 + suc n % 1000 / 500 ≡ (suc n + 500) / 1000 = omega arith in
+    rw (halved (suc n % 1000)) (omega (linear, e, opposite q, opposite r, plus (negℤ q) (negℤ r), opposite (pos ((suc n + 500) / 1000))))
 
-halves-size : (t : ℤ) → SFits w64 t → natAbs (halves t) ≤ 18446744073709552
-halves-size (pos n) f = omega linear
-halves-size (negsuc n) f = omega (linear, size (negℤ (pos (suc n / 500))), opposite (pos (suc n / 500)))
+-- the thousandths of the whole Wh stand on both sides of the remainder, and go
+dropped : (t : ℤ) → rest t -ℤ pos 1000 *ℤ away t ≡ droppedThousandths t
+unfolding droppedThousandths
+dropped t =
+    let q = whole t *ℤ pos 1000 in
+    let a = pos 1000 *ℤ away t in
+    rw (← rounded t, times-plus (pos 1000) (whole t) (away t), *ℤ-comm (pos 1000) (whole t))
+    (omega (linear, cut-whole t 1000, plus q (rest t), minus (rest t) a, minus t (q +ℤ a), plus q a))
 
-nearest-fits : (t : ℤ) → SFits w64 t → SFits w64 (nearestWh t)
-nearest-fits t f = omega (linear, size (nearestWh t), nearest-size t, natAbs-le t (f .sfits))
+-- how large each is
+whole-size : (t : ℤ) → SFits w64 t → natAbs (whole t) ≤ 9223372036854776
+whole-size t f = omega (arith, cut-size t 1000, natAbs-le t (f .sfits))
 
-halves-held : (t : ℤ) → SFits w64 t → Held (ofZ w64 (quotZ (toZ w64 (ofZ w64 t)) (pos 500))) (halves t) 18446744073709552
-halves-held t f = rw (toZ-ofZ w64 t f) (held (halves t) 18446744073709552 (halves-size t f) (lit< tt))
+rest-size : (t : ℤ) → natAbs (rest t) ≤ 999
+rest-size t = omega (arith, cut-left t 1000 (lit< tt))
 
-div-halves : tie.Need-div-halves
-div-halves c = (lit< tt, rw (toZ-ofZ w64 (c .args .thousandths) (c .fits .thousandths)) (cut-fits (c .args .thousandths) 500 (c .fits .thousandths)))
-
--- what is held on the way
-module _ (c : tie.Joined1) where
+-- and as the code holds them, wherever it cuts the remainder
+module _ (c : tie.Start) where
   abbrev t : ℤ
-  t = c .before .args .thousandths
+  t = c .args .thousandths
 
-  fits : SFits w64 t
-  fits = c .before .fits .thousandths
+  read : toZ w64 (ofZ w64 t) ≡ t
+  read = toZ-ofZ w64 t (c .fits .thousandths)
 
-  away-held : Held (c .if1 .away) (away t) 1
-  away-held =
-      ⊎-elim
-      (λ w. away-below t _ (tested-lt t (pos 0) fits (w .0 .taken)) (w .1))
-      (λ w. away-above t _ (tested-ge t (pos 0) fits (w .0 .left)) (w .1))
-      (c .if1 .came)
+  divides : SFits w64 (quotZ (toZ w64 (ofZ w64 t)) (pos 1000))
+  divides = rw read (cut-fits t 1000 (c .fits .thousandths))
 
-  sum-is : toZ w64 (ofZ w64 (toZ w64 (ofZ w64 (quotZ (toZ w64 (ofZ w64 t)) (pos 500))) +ℤ toZ w64 (c .if1 .away))) ≡ halves t +ℤ away t
-  sum-is = plus-held (halves-held t fits) away-held (lit< tt) .reads
+  whole-held : Held (ofZ w64 (quotZ (toZ w64 (ofZ w64 t)) (pos 1000))) (whole t) 9223372036854776
+  whole-held = rw read (held (whole t) 9223372036854776 (whole-size t (c .fits .thousandths)) (lit< tt))
 
-add-result : tie.Need-add-result
-add-result c = plus-fits (halves-held (t c) (fits c)) (away-held c) (lit< tt)
+  rest-held : Held (ofZ w64 (remZ (toZ w64 (ofZ w64 t)) (pos 1000))) (rest t) 999
+  rest-held = rw read (held (rest t) 999 (rest-size t) (lit< tt))
 
-div-result : tie.Need-div-result
-div-result c = (lit< tt, rw (sum-is c, rounded (t c)) (nearest-fits _ (fits c)))
+  module _ (half : ℕ) where
+    cut-bound : natAbs (quotZ (rest t) (pos half)) ≤ 999
+    cut-bound = omega (arith, cut-size (rest t) half, div-le-self (natAbs (rest t)) half, rest-size t)
+
+    away-fits : SFits w64 (quotZ (toZ w64 (ofZ w64 (remZ (toZ w64 (ofZ w64 t)) (pos 1000)))) (pos half))
+    away-fits = rw (rest-held .reads) (fit (quotZ (rest t) (pos half)) 999 cut-bound (lit< tt))
+
+    away-held : Held (ofZ w64 (quotZ (toZ w64 (ofZ w64 (remZ (toZ w64 (ofZ w64 t)) (pos 1000)))) (pos half))) (quotZ (rest t) (pos half)) 999
+    away-held = rw (rest-held .reads) (held (quotZ (rest t) (pos half)) 999 cut-bound (lit< tt))
+
+    -- and however many thousandths it takes off for that
+    module _ (n : ℕ) (small : n * 999 < 2 ^ 63) where
+      abbrev off : ℤ
+      off = pos n *ℤ toZ w64 (ofZ w64 (quotZ (toZ w64 (ofZ w64 (remZ (toZ w64 (ofZ w64 t)) (pos 1000)))) (pos half)))
+
+      off-bound : natAbs (pos n *ℤ quotZ (rest t) (pos half)) ≤ n * 999
+      off-bound = times-bound (pos n) (quotZ (rest t) (pos half)) (le-refl n) cut-bound
+
+      off-fits : SFits w64 off
+      off-fits = rw (away-held .reads) (fit (pos n *ℤ quotZ (rest t) (pos half)) (n * 999) off-bound small)
+
+      off-held : Held (ofZ w64 off) (pos n *ℤ quotZ (rest t) (pos half)) (n * 999)
+      off-held = rw (away-held .reads) (held (pos n *ℤ quotZ (rest t) (pos half)) (n * 999) off-bound small)
+
+rem-rest : tie.Need-rem-rest
+rem-rest c = (lit< tt, divides c)
+
+div-away : tie.Need-div-away
+div-away c = (lit< tt, away-fits c _)
+
+div-t4 : tie.Need-div-t4
+div-t4 c = (lit< tt, divides c)
+
+add-t5 : tie.Need-add-t5
+add-t5 c = plus-fits (whole-held c) (away-held c _) (lit< tt)
+
+mul-t6 : tie.Need-mul-t6
+mul-t6 c = off-fits c _ _ (lit< tt)
+
+sub-t7 : tie.Need-sub-t7
+sub-t7 c = minus-fits (rest-held c) (off-held c _ _ (lit< tt)) (lit< tt)
 
 returns : tie.Need-returns
-returns c = rw (sum-is c, rounded (t c)) (toZ-ofZ w64 _ (nearest-fits _ (fits c)))
+returns c =
+    ap₂ (λ (w d : ℤ). record { wh = w; dropped = d })
+    (plus-held (whole-held c) (away-held c _) (lit< tt) .reads ∙ rounded (t c))
+    (minus-held (rest-held c) (off-held c _ _ (lit< tt)) (lit< tt) .reads ∙ dropped (t c))
 
 pub nearest-wh-spec : {M : Type 1} → statement M
-nearest-wh-spec = tie.close (tie.spec div-halves add-result div-result returns)
+nearest-wh-spec = tie.close (tie.spec rem-rest div-away div-t4 add-t5 mul-t6 sub-t7 returns)

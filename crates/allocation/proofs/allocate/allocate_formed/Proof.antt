@@ -14,7 +14,7 @@ use Rattle.book.specs.Limits.{takeFlagSet}
 use Rattle.book.specs.Settings.{takeIsSet}
 use Rattle.cells.specs.Cells.{countFrom, units}
 use Rattle.cells.specs.Helpers.{tableOf}
-use Rattle.allocation.proofs.Steps.{gather-arguments, all-units-arguments, take-fits, correct-arguments, sums-worked}
+use Rattle.allocation.proofs.Steps.{gather-arguments, all-units-arguments, take-fits, correct-arguments, sums-worked, droppings-worked}
 use Rattle.allocation.proofs.Ways.{way-short, way-unset, way-lacks, way-corrected}
 use Rattle.allocation.proofs.allocate.allocate_formed.Statement.{statement}
 use Rattle.allocation.proofs.allocate.allocate_formed.Tie as tie
@@ -66,12 +66,12 @@ weights-long c = search needs
 
 all-units-requires : tie.Need-all-units-requires
 all-units-requires c κs =
-    let g = c .before .before .before .before .before in
-    all-units-arguments _ _ (start g .pre) (weights-long (start g)) refl refl (g .gather .ensures .cells-are)
+    let g = c .before .before .before .before .before .before in
+    all-units-arguments _ _ (start g .pre) (weights-long (start g)) refl refl refl (g .gather .ensures .cells-are)
 
 -- where the units' sums have been worked
 abbrev gathered : tie.After-all-units → tie.After-gather
-gathered c = c .before .before .before .before .before .before
+gathered c = c .before .before .before .before .before .before .before
 
 abbrev settings : tie.After-all-units → Settings
 settings c = start (gathered c) .args .settings
@@ -96,13 +96,14 @@ same-length c = search needs
 
 returns-4 : tie.Need-returns-4
 returns-4 c =
-    let k = c .before .before .before in
+    let k = c .before .before in
     let a = k .before .before .before .before .before in
     let g = gathered a in
     let wf = start g .pre in
     rw (c .answered .ensures, g .gather .ensures .counts-are)
-    (way-corrected _ _ wf _ (long g) (take-set g) (sym (g .gather .ensures .lacks-is) ∙ a .before .before .before .before .before .if3 .left)
-    (rw (take-read a, sums-worked _ _ wf (g .gather .ensures .cells-are) (a .all-units .ensures)) at (k .correct-units .ensures)))
+    (way-corrected _ _ wf _ (long g) (take-set g) (sym (g .gather .ensures .lacks-is) ∙ a .before .before .before .before .before .before .if3 .left)
+    (rw (take-read a, sums-worked _ _ wf (g .gather .ensures .cells-are) (a .all-units .ensures)) at (k .correct-units .ensures))
+    (droppings-worked _ _ wf (g .gather .ensures .cells-are) (a .all-units .ensures)))
 
 pub allocate-formed-spec : {M : Type 1} → statement M
 allocate-formed-spec =

@@ -1,19 +1,22 @@
 -- `unit_sums` meets its contract. The loop's invariant: n and a are those of the cells passed, which are whole pairs. Assumes nothing.
 use Prim.Native.Nat.{ℕ, suc, _+_, _-_, _*_, _%_, _≤_, _<_}
-use mathlib.Core.Path.{_≡_}
+use mathlib.Core.Path.{_≡_, ap}
 use mathlib.Core.List.{List, []}
 use native.Mathlib.Omega.{arith}
 use native.Mathlib.Numerals.{add-one}
-use lib.IntN.{ℤ, pos, _+ℤ_, _*ℤ_}
+use lib.IntN.{ℤ, pos, _+ℤ_, _*ℤ_, +ℤ-idl}
 use lib.ListN.{length, take, getD}
 use lib.Seq.{take-all}
 use mir.Syntax.{w64}
 use mir.Val.{SFits, toZ, ofZ}
 use mir.ValLaws.{toZ-ofZ}
+use Rattle.integers.specs.declared.Rounded.{Rounded}
+use Rattle.integers.specs.Rounding.{droppedThousandths, roundedOf}
+use Rattle.integers.proofs.Nearest.{nearest-half}
 use Rattle.integers.proofs.Fit.{Held, held, held-literal, plus-fits, plus-held, times-fits, times-held}
 use Rattle.correction.specs.Correction.{byDirection, netOf, weightedOf}
-use Rattle.correction.specs.Helpers.{roundedFrom, sumsOf, UnitArguments}
-use Rattle.correction.proofs.RunningSums.{whole-length, used-entry, lost-entry, net-next-pair, weighted-next, direction-size}
+use Rattle.correction.specs.Helpers.{wholeCell, droppedCell, roundedFrom, droppedFrom, unitFiguresOf, UnitArguments}
+use Rattle.correction.proofs.RunningSums.{each-length, used-entry, lost-entry, none-dropped, loss-dropped, net-next-pair, weighted-next, direction-size}
 use Rattle.correction.proofs.sums.unit_sums.Statement.{statement}
 use Rattle.correction.proofs.sums.unit_sums.Tie as tie
 
@@ -24,12 +27,16 @@ NetHeld cells i net = Held net (netOf 0 (take i (roundedFrom 0 cells))) (i * 140
 abbrev WeightedHeld : List ℤ → List ℕ → ℕ → ℕ → Type 0
 WeightedHeld cells weights i weighted = Held weighted (weightedOf (take i (roundedFrom 0 cells)) weights) (i * 1400000000000000)
 
+-- and their droppings: every second cell is a loss, of which at most 500 thousandths are dropped
+abbrev DroppedHeld : List ℤ → ℕ → ℕ → Type 0
+DroppedHeld cells i droppings = Held droppings (netOf 0 (take i (droppedFrom 0 cells))) (i * 250)
+
 abbrev Inv-loop : tie.InvT-loop
-Inv-loop table unit weights net₀ weighted₀ class₀ net weighted class =
-    (class ≤ 24) × ((class % 2 ≡ 0) × (NetHeld (getD table unit []) class net × WeightedHeld (getD table unit []) weights class weighted))
+Inv-loop table unit weights net₀ weighted₀ droppings₀ class₀ net weighted droppings class =
+    (class ≤ 24) × ((class % 2 ≡ 0) × (NetHeld (getD table unit []) class net × (WeightedHeld (getD table unit []) weights class weighted × DroppedHeld (getD table unit []) class droppings)))
 
 abbrev μ-loop : tie.MeasureT-loop
-μ-loop table unit weights net₀ weighted₀ class₀ net weighted class = 24 - class
+μ-loop table unit weights net₀ weighted₀ droppings₀ class₀ net weighted droppings class = 24 - class
 
 -- a cell of class k, rounded
 record Cell (cells : List ℤ) (weights : List ℕ) (k : ℕ) (c : ℤ) : Type 0 where
@@ -39,7 +46,7 @@ record Cell (cells : List ℤ) (weights : List ℕ) (k : ℕ) (c : ℤ) : Type 0
 
 module _ {cells : List ℤ} {weights : List ℕ} {k : ℕ} {c : ℤ} (x : Cell cells weights k c) where
   in-cells : k < length (roundedFrom 0 cells)
-  in-cells = omega (arith, whole-length 0 cells, x .class-bound, x .args .cells-long)
+  in-cells = omega (arith, each-length wholeCell 0 cells, x .class-bound, x .args .cells-long)
 
   cell : Held (ofZ w64 c) c 1400000000000
   cell = held c 1400000000000 (rw (x .cell-is) (x .args .cells-bound k)) (omega arith)
@@ -96,18 +103,40 @@ module _ {cells : List ℤ} {weights : List ℕ} {i net : ℕ} {used lost : ℤ}
         rw (bound, two, net-next-pair (roundedFrom 0 cells) i inside even, ← is-used, ← is-lost, ← e)
         (plus-held n directed (omega (arith, x .class-bound)))
 
--- past the last class
-module _ (cells : List ℤ) (weights : List ℕ) (i net weighted : ℕ) (args : UnitArguments cells weights) (past : 24 ≤ i) where
-  all-passed : take i (roundedFrom 0 cells) ≡ roundedFrom 0 cells
-  all-passed = take-all i (roundedFrom 0 cells) (omega (arith, whole-length 0 cells, args .cells-long))
+-- what its losses drop goes into the droppings
+module _ (cells : List ℤ) (i : ℕ) {droppings : ℕ} {dropped d : ℤ} (long : length cells ≡ 24) (class-bound : i + 1 < 24) (even : i % 2 ≡ 0) (p : DroppedHeld cells i droppings)
+    (is : dropped ≡ droppedThousandths (getD cells (i + 1) (pos 0))) (e : d ≡ byDirection i dropped) where
+  drop-held : Held (ofZ w64 d) d 500
+  drop-held = held d 500 (rw (e, direction-size i dropped, is) (nearest-half _)) (omega arith)
 
-  result : NetHeld cells i net → WeightedHeld cells weights i weighted
-      → record { net = toZ w64 net; weighted = toZ w64 weighted } ≡ sumsOf cells weights
-  result n a = rw (n .reads, a .reads, all-passed)
+  droppings-fit : SFits w64 (toZ w64 droppings +ℤ toZ w64 (ofZ w64 d))
+  droppings-fit = plus-fits p drop-held (omega arith)
+
+  next-droppings : DroppedHeld cells (i + 2) (ofZ w64 (toZ w64 droppings +ℤ toZ w64 (ofZ w64 d)))
+  next-droppings =
+      let bound : (i + 2) * 250 ≡ i * 250 + 500 = omega arith in
+      let two : i + 2 ≡ suc (suc i) = omega arith in
+      let inside : suc i < length (droppedFrom 0 cells) = omega (arith, each-length droppedCell 0 cells) in
+      let of-loss = rw add-one at (loss-dropped cells i even (omega arith)) in
+      let is-dropped = rw add-one at is in
+      rw (bound, two, net-next-pair (droppedFrom 0 cells) i inside even, none-dropped cells i even (omega arith), of-loss, +ℤ-idl, ← is-dropped, ← e)
+      (plus-held p drop-held (omega arith))
+
+-- past the last class
+module _ (cells : List ℤ) (weights : List ℕ) (i net weighted droppings : ℕ) (args : UnitArguments cells weights) (past : 24 ≤ i) where
+  all-passed : take i (roundedFrom 0 cells) ≡ roundedFrom 0 cells
+  all-passed = take-all i (roundedFrom 0 cells) (omega (arith, each-length wholeCell 0 cells, args .cells-long))
+
+  all-dropped : take i (droppedFrom 0 cells) ≡ droppedFrom 0 cells
+  all-dropped = take-all i (droppedFrom 0 cells) (omega (arith, each-length droppedCell 0 cells, args .cells-long))
+
+  result : NetHeld cells i net → WeightedHeld cells weights i weighted → DroppedHeld cells i droppings
+      → record { sums = record { net = toZ w64 net; weighted = toZ w64 weighted }; droppings = toZ w64 droppings } ≡ unitFiguresOf cells weights
+  result n a d = rw (n .reads, a .reads, d .reads, all-passed, all-dropped)
 
 loop-holds : tie.Need-loop-holds Inv-loop μ-loop
 unfolding netOf weightedOf
-loop-holds c = (omega arith, (omega arith, (held-literal 0 (omega arith), held-literal 0 (omega arith))))
+loop-holds c = (omega arith, (omega arith, (held-literal 0 (omega arith), (held-literal 0 (omega arith), held-literal 0 (omega arith)))))
 
 mul-used : tie.Need-mul-used Inv-loop μ-loop
 mul-used c = omega arith
@@ -160,7 +189,10 @@ module _ (c : tie.After-nearest-wh Inv-loop μ-loop) where
   net-held = c .before .before .before .before .loop .inv .1 .1 .0
 
   weighted-held : WeightedHeld row weights class (c .before .before .before .before .loop .weighted)
-  weighted-held = c .before .before .before .before .loop .inv .1 .1 .1
+  weighted-held = c .before .before .before .before .loop .inv .1 .1 .1 .0
+
+  droppings-held : DroppedHeld row class (c .before .before .before .before .loop .droppings)
+  droppings-held = c .before .before .before .before .loop .inv .1 .1 .1 .1
 
   used-cell : Cell row weights class (getD row class (pos 0))
   used-cell =
@@ -170,38 +202,71 @@ module _ (c : tie.After-nearest-wh Inv-loop μ-loop) where
         cell-is = rw (used-entry row class even (omega (arith, start .pre .1 .cells-long)));
       }
 
-  lost-cell : Cell row weights (class + 1) (c .nearest-wh .result)
+  rounded-is : c .nearest-wh .result ≡ roundedOf (getD row (class + 1) (pos 0))
+  rounded-is = rw (toZ-ofZ w64 _ (record { sfits = c .before .nearest-wh-arg .given })) at (c .nearest-wh .ensures)
+
+  abbrev lost : ℤ
+  lost = c .nearest-wh .result .wh
+
+  abbrev dropped : ℤ
+  dropped = c .nearest-wh .result .dropped
+
+  lost-cell : Cell row weights (class + 1) lost
   lost-cell =
       record {
         args = start .pre .1;
         class-bound = omega arith;
-        cell-is =
-            rw (lost-entry row class even (omega (arith, start .pre .1 .cells-long)))
-            (rw (toZ-ofZ w64 _ (record { sfits = c .before .nearest-wh-arg .given })) at (c .nearest-wh .ensures));
+        cell-is = rw (lost-entry row class even (omega (arith, start .pre .1 .cells-long))) (ap (λ (r : Rounded). r .wh) rounded-is);
       }
 
-  sum-held : Held (ofZ w64 (toZ w64 (ofZ w64 (getD row class (pos 0))) +ℤ toZ w64 (ofZ w64 (c .nearest-wh .result)))) (getD row class (pos 0) +ℤ c .nearest-wh .result) (1400000000000 + 1400000000000)
+  dropped-is : dropped ≡ droppedThousandths (getD row (class + 1) (pos 0))
+  dropped-is = ap (λ (r : Rounded). r .dropped) rounded-is
+
+  sum-held : Held (ofZ w64 (toZ w64 (ofZ w64 (getD row class (pos 0))) +ℤ toZ w64 (ofZ w64 lost))) (getD row class (pos 0) +ℤ lost) (1400000000000 + 1400000000000)
   sum-held = both used-cell lost-cell net-held even
 
+  dropped-read : toZ w64 (ofZ w64 dropped) ≡ dropped
+  dropped-read = held dropped 500 (rw dropped-is (nearest-half _)) (omega arith) .reads
+
+  -- with its sign, d, it goes into the droppings
+  module _ {d : ℤ} (e : d ≡ byDirection class (toZ w64 (ofZ w64 dropped))) where
+    signed-is : d ≡ byDirection class dropped
+    signed-is = rw dropped-read at e
+
+    dropped-fits : SFits w64 (toZ w64 (c .before .before .before .before .loop .droppings) +ℤ toZ w64 (ofZ w64 d))
+    dropped-fits = droppings-fit row class (start .pre .1 .cells-long) (omega arith) even droppings-held dropped-is signed-is
+
+    dropped-more : DroppedHeld row (class + 2) (ofZ w64 (toZ w64 (c .before .before .before .before .loop .droppings) +ℤ toZ w64 (ofZ w64 d)))
+    dropped-more = next-droppings row class (start .pre .1 .cells-long) (omega arith) even droppings-held dropped-is signed-is
+
 module _ (c : tie.After-by-direction Inv-loop μ-loop) where
-  directed-is : c .by-direction .result ≡ byDirection (class (c .before)) (getD (row (c .before)) (class (c .before)) (pos 0) +ℤ c .before .nearest-wh .result)
-  directed-is = rw (sum-held (c .before) .reads) at (c .by-direction .ensures)
+  abbrev turn : tie.After-nearest-wh Inv-loop μ-loop
+  turn = c .before .before .before
+
+  directed-is : c .by-direction .result ≡ byDirection (class turn) (getD (row turn) (class turn) (pos 0) +ℤ lost turn)
+  directed-is = rw (sum-held turn .reads) at (c .by-direction .ensures)
 
 module _ (c : tie.After-signed Inv-loop μ-loop) where
   abbrev pair : tie.After-nearest-wh Inv-loop μ-loop
-  pair = c .before .before .before
+  pair = turn (c .before .before .before)
 
-  used-weighted : WeightedHeld (row pair) (weights pair) (class pair + 1) (ofZ w64 (toZ w64 (c .before .before .before .before .before .before .before .loop .weighted) +ℤ toZ w64 (times (used-cell pair) (c .signed .ensures))))
+  used-weighted : WeightedHeld (row pair) (weights pair) (class pair + 1) (ofZ w64 (toZ w64 (pair .before .before .before .before .loop .weighted) +ℤ toZ w64 (times (used-cell pair) (c .signed .ensures))))
   used-weighted = next-weighted (used-cell pair) (c .signed .ensures) (weighted-held pair)
 
 add-by-direction : tie.Need-add-by-direction Inv-loop μ-loop
-add-by-direction c = both-fit (used-cell c) (lost-cell c) (net-held c) (even c)
+add-by-direction c = let p = c .before .before in both-fit (used-cell p) (lost-cell p) (net-held p) (even p)
 
 by-direction-requires : tie.Need-by-direction-requires Inv-loop μ-loop
-by-direction-requires c κs = rw (sum-held c .reads) (omega (arith, sum-held c .bound))
+by-direction-requires c κs = let p = c .before .before in rw (sum-held p .reads) (omega (arith, sum-held p .bound))
 
 add-net : tie.Need-add-net Inv-loop μ-loop
-add-net c = net-fits (used-cell (c .before)) (lost-cell (c .before)) (net-held (c .before)) (even (c .before)) (directed-is c)
+add-net c = net-fits (used-cell (turn c)) (lost-cell (turn c)) (net-held (turn c)) (even (turn c)) (directed-is c)
+
+by-direction-requires-2 : tie.Need-by-direction-requires-2 Inv-loop μ-loop
+by-direction-requires-2 c κs = rw (dropped-read (turn c), dropped-is (turn c)) (omega (arith, nearest-half (getD (row (turn c)) (class (turn c) + 1) (pos 0))))
+
+add-droppings : tie.Need-add-droppings Inv-loop μ-loop
+add-droppings c = dropped-fits (turn (c .before)) (c .by-direction2 .ensures)
 
 mul-signed : tie.Need-mul-signed Inv-loop μ-loop
 mul-signed c = omega arith
@@ -251,8 +316,11 @@ loop-again c =
       (
         omega arith,
         (
-          next-net (used-cell p) (lost-cell p) (net-held p) (even p) (directed-is (d .before .before)),
-          rw two at (next-weighted (lost-cell p) (c .signed2 .ensures) (used-weighted d)),
+          next-net (used-cell p) (lost-cell p) (net-held p) (even p) (directed-is (d .before .before .before)),
+          (
+            rw two at (next-weighted (lost-cell p) (c .signed2 .ensures) (used-weighted d)),
+            dropped-more p (d .before .before .by-direction2 .ensures),
+          ),
         ),
       ),
     )
@@ -260,7 +328,7 @@ loop-again c =
 returns : tie.Need-returns Inv-loop μ-loop
 returns c =
     let i = c .before .loop .inv .1 .1 in
-    result _ _ (c .before .loop .class) _ _ (c .before .before .pre .1) (omega arith) (i .0) (i .1)
+    result _ _ (c .before .loop .class) _ _ _ (c .before .before .pre .1) (omega arith) (i .0) (i .1 .0) (i .1 .1)
 
 pub unit-sums-spec : {M : Type 1} → statement M
 unit-sums-spec =
@@ -282,6 +350,8 @@ unit-sums-spec =
     add-by-direction
     by-direction-requires
     add-net
+    by-direction-requires-2
+    add-droppings
     mul-signed
     element-copy-out-signed
     signed-requires

@@ -1,20 +1,19 @@
--- Sums over the numbers below a bound: term by term, of two sums, of zeros, with one term that is not 0, and of sums over meters.
+-- Sums over the numbers below a bound: term by term, of two sums, times a factor, of zeros, with one term that is not 0, and of sums over meters.
 use Prim.Native.Nat.{ℕ, zero, suc, _+_, _≤_, _<_}
-use mathlib.Core.Path.{_≡_, refl, ap, ap₂, _∙_}
+use mathlib.Core.Path.{_≡_, refl, sym, ap, ap₂, _∙_}
 use mathlib.Core.Bool.{Bool, true, false, _&&_, cond}
 use mathlib.Core.List.{List, [], _∷_, map}
 use native.Mathlib.Omega.{arith}
 use lib.Dec.{eqb}
-use lib.IntN.{ℤ, pos, _+ℤ_, +ℤ-idl, +ℤ-idr}
+use lib.IntN.{ℤ, pos, _+ℤ_, _*ℤ_, +ℤ-idl, +ℤ-idr, *ℤ-zero}
 use borrow.Author.Tests.{eqb-true, eqb-false, ne-eqb}
 use Rattle.integers.specs.Sum.{sum}
-use Rattle.integers.proofs.Ring.{plus-exchange}
+use Rattle.integers.proofs.Ring.{plus-exchange, times-plus}
 use Rattle.words.proofs.Tests.{by-test}
 use Rattle.book.specs.Rows.{Row}
-use Rattle.cells.specs.Cells.{countFrom, sumOver}
+use Rattle.cells.specs.Cells.{countFrom, sumBelow, sumOver}
 use Rattle.cells.proofs.Counting.{counted-length, counted-at, counted-list}
 use Rattle.cells.proofs.Each.{Each, no-entry, entry}
-use Rattle.totals.specs.Laws.{sumBelow}
 
 pub sum-below-same : (n : ℕ) (f g : ℕ → ℤ) → ((i : ℕ) → i < n → f i ≡ g i) → sumBelow n f ≡ sumBelow n g
 sum-below-same n f g same =
@@ -30,8 +29,16 @@ from-plus f g k zero = refl
 from-plus f g k (suc n) =
     ap (λ z. (f k +ℤ g k) +ℤ z) (from-plus f g (suc k) n) ∙ plus-exchange (f k) (g k) (sumFrom f (suc k) n) (sumFrom g (suc k) n)
 
-sum-below-plus : (n : ℕ) (f g : ℕ → ℤ) → sumBelow n (λ i. f i +ℤ g i) ≡ sumBelow n f +ℤ sumBelow n g
+pub sum-below-plus : (n : ℕ) (f g : ℕ → ℤ) → sumBelow n (λ i. f i +ℤ g i) ≡ sumBelow n f +ℤ sumBelow n g
 sum-below-plus n f g = from-plus f g 0 n
+
+from-times : (c : ℤ) (f : ℕ → ℤ) (k n : ℕ) → sumFrom (λ i. c *ℤ f i) k n ≡ c *ℤ sumFrom f k n
+unfolding sum countFrom
+from-times c f k zero = sym (*ℤ-zero c)
+from-times c f k (suc n) = ap (λ z. c *ℤ f k +ℤ z) (from-times c f (suc k) n) ∙ sym (times-plus c (f k) (sumFrom f (suc k) n))
+
+pub sum-below-times : (n : ℕ) (c : ℤ) (f : ℕ → ℤ) → sumBelow n (λ i. c *ℤ f i) ≡ c *ℤ sumBelow n f
+sum-below-times n c f = from-times c f 0 n
 
 from-zeros : (k n : ℕ) → sumFrom (λ i. pos 0) k n ≡ pos 0
 unfolding sum countFrom
