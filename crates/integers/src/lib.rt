@@ -40,15 +40,22 @@ pub struct Rounded {
 }
 
 // Thousandths of a Wh to the nearest Wh, halves away from zero, and what is dropped so. The remainder has the sign of the
-// thousandths: half a Wh or more of it is one Wh more of that sign. No product leaves the range, since the rounded Wh, whose
-// thousandths could, are not multiplied; and there is no branch, since the processor could not guess the signs of losses.
+// thousandths: half a Wh or more of it is one Wh more of that sign. The rounded Wh are not multiplied, since their thousandths can
+// leave the range. The compiler makes the two tests without a branch: the processor could not guess the signs of losses.
 pub fn nearest_wh(thousandths: i64) -> Rounded
     ensures { λ r. ⌜ r ≡ roundedOf thousandths ⌝ }
 {
+    let whole = thousandths / 1000;
     let rest = thousandths % 1000;
-    let away = rest / 500;
+    let away = if rest < -499 {
+        -1
+    } else if 499 < rest {
+        1
+    } else {
+        0
+    };
     Rounded {
-        wh: thousandths / 1000 + away,
+        wh: whole + away,
         dropped: rest - 1000 * away,
     }
 }
