@@ -55,7 +55,7 @@
  *
  * STACK
  *
- * A list of calls needs 16 KiB of stack, an allocation 10 KiB and any other call 3 KiB, however
+ * A list of calls needs 16 KiB of stack, an allocation 11 KiB and any other call 3 KiB, however
  * many meters there are. The first call of a program may need 4 KiB more, for the dynamic linker.
  * These are measured figures: allow 32 KiB.
  *

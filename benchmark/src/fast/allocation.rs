@@ -91,6 +91,7 @@ fn nearest(thousandths: i64) -> i64 {
 
 /// Cells in pairs, energy and its losses: the sign of a pair is that of its direction, and what was dropped is worked once for all
 /// pairs.
+#[inline(never)]
 fn sum_up(cells: &[[i64; CLASSES]; UNITS], weights: &[u32; CLASSES]) -> Sums {
     let mut sums = Sums { nets: [0; UNITS], weighted: [0; UNITS], droppings: [0; UNITS] };
     for (unit, cells) in cells.iter().enumerate() {
