@@ -29,7 +29,7 @@ use Rattle.cells.proofs.CellBounds.{raw-cell-is}
 use Rattle.correction.specs.declared.UnitSums.{UnitSums}
 use Rattle.correction.specs.Correction.{byDirection, netOf, weightedOf, netIn, weightedIn}
 use Rattle.correction.specs.Outcome.{pairsOf}
-use Rattle.correction.specs.Helpers.{wholeCell, droppedCell, eachFrom, roundedFrom, droppedFrom, sumsOf, droppingsOf, UnitArguments, AllUnitsArguments, AllUnits, CorrectArguments, sizes}
+use Rattle.correction.specs.Helpers.{wholeCell, droppedCell, eachFrom, roundedFrom, sumsOf, droppingsOf, UnitArguments, AllUnitsArguments, AllUnits, CorrectArguments, sizes}
 use Rattle.correction.proofs.RunningSums.{net-counted}
 use Rattle.correction.proofs.Pairs.{pairs-of-sums}
 use Rattle.allocation.specs.Losses.{cellDropped, unitDroppings, allDroppings}
