@@ -1,4 +1,6 @@
 // The allocate call.
+#![tactic(auto)]
+
 use book::Settings;
 
 pub mod allocate;
@@ -6,7 +8,7 @@ pub mod allocate;
 // The number given, U and W, the four counts, and for each unit the thousandths of a Wh that rounding its losses dropped, import
 // minus export; zeros beside a refusal's number.
 #[repr(C)]
-#[derive(Drop)]
+#[derive(Clone, Copy)]
 pub struct Allocated {
     pub number: u64,
     pub unallocated: i64,
@@ -20,7 +22,7 @@ pub struct Allocated {
 
 // What the allocate call answers: its figures, and the settings as they were given.
 #[repr(C)]
-#[derive(Drop)]
+#[derive(Clone, Copy)]
 pub struct AllocationAnswer {
     pub answer: Allocated,
     pub settings: Settings,

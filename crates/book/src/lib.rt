@@ -1,5 +1,7 @@
 // The state of the book of one GSP Group and one Settlement Period: its settings and its rows, the test that they are well formed,
 // and how a setting, a registration or a reading is stored in them.
+#![tactic(auto)]
+
 ghost use Rattle.std.specs.Prelude.{◌≡◌};
 ghost use Rattle.book.specs.Settings.{fresh_settings};
 
@@ -12,7 +14,7 @@ pub mod store;
 // The settings, passed in and returned. Whatever bytes a C program passes are numbers that the contracts speak of: the flag of the
 // Take is no `bool`, which has two values only, and the order of the fields leaves no padding.
 #[repr(C)]
-#[derive(Drop)]
+#[derive(Clone, Copy)]
 pub struct Settings {
     pub meters: usize,
     pub weights: [u32; 24],
@@ -24,21 +26,21 @@ pub struct Settings {
 
 // What a call that writes the book answers: 0 or the number of its refusal, and the settings.
 #[repr(C)]
-#[derive(Drop)]
+#[derive(Clone, Copy)]
 pub struct Answer {
     pub number: u64,
     pub settings: Settings,
 }
 
 // Where a meter's row stands or is to stand, counted in rows, and whether it is there.
-#[derive(Drop)]
+#[derive(Clone, Copy)]
 pub struct Place {
     pub index: usize,
     pub known: bool,
 }
 
 // One of the four settings that a call replaces, with its new value.
-#[derive(Drop)]
+#[derive(Clone, Copy)]
 pub enum Setting {
     Shape { category: u64, wh: u64 },
     Weight { class: u64, thousandths: u64 },
@@ -47,14 +49,14 @@ pub enum Setting {
 }
 
 // What a register call asks for: whether its arguments are in range, and the word to store (0 if they are not).
-#[derive(Drop)]
+#[derive(Clone, Copy)]
 pub struct Asked {
     pub ok: bool,
     pub word: u64,
 }
 
 // What a meter holds: words 1 and 2 of its row, or nothing (both 0) where it has none.
-#[derive(Drop)]
+#[derive(Clone, Copy)]
 pub struct Held {
     pub known: bool,
     pub registration: u64,
@@ -63,7 +65,7 @@ pub struct Held {
 
 // What storing a registration or a reading gives: the number, how many meters there are then, and what the meter held before and
 // holds after, so that a caller can work out the change. A refusal changes nothing, and tells nothing held on both sides.
-#[derive(Drop)]
+#[derive(Clone, Copy)]
 pub struct Stored {
     pub number: u64,
     pub meters: usize,

@@ -1,11 +1,13 @@
 // The calls that write the book. Each tests the book it is lent first, then its arguments, and gives the lowest number that applies.
+#![tactic(auto)]
+
 use book::Setting;
 use words::{Reading, Registration};
 
 pub mod make;
 
 // A call with its arguments, wherever it comes from: a function call, the words of a list, or a line of a period file.
-#[derive(Drop)]
+#[derive(Clone, Copy)]
 pub enum Call {
     Register {
         mpan: u64,

@@ -1,11 +1,13 @@
 // Signed whole numbers: division rounded down, thousandths rounded to the nearest whole, and U × a / W with nothing lost.
+#![tactic(auto)]
+
 ghost use Rattle.std.specs.Prelude.{◌≡◌, ◌≤◌, ◌*◌, ◌/◌, ◌^◌, pos, nat_abs, ◌+ℤ◌, ◌*ℤ◌, ◌<ℤ◌};
 ghost use Rattle.integers.specs.Quotient.{quotient_of};
 ghost use Rattle.integers.specs.Rounding.{rounded_of};
 ghost use Rattle.integers.specs.Helpers.{ShareArguments, DigitArguments};
 
 // A quotient rounded down, and the fraction above it, times the divisor.
-#[derive(Drop)]
+#[derive(Clone, Copy)]
 pub struct Quotient {
     pub floor: i64,
     pub fraction: u64,
@@ -32,7 +34,7 @@ fn floor_quotient(x: i64, d: i64) -> Quotient
 }
 
 // Thousandths of a Wh rounded: the whole Wh, and the thousandths that were dropped.
-#[derive(Drop)]
+#[derive(Clone, Copy)]
 pub struct Rounded {
     pub wh: i64,
     pub dropped: i64,

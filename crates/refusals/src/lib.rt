@@ -1,4 +1,6 @@
 // The number that a call answers: 0, or that of the one refusal given. Every crate takes these numbers from here.
+#![tactic(auto)]
+
 pub const ACCEPTED: u64 = 0;
 
 pub const BOOK_ILL_FORMED: u64 = 1;

@@ -1,5 +1,7 @@
 // The body of the program `settle`: it reads a period file from standard input line by line, makes the call of each line, and
 // prints what document 01 says. What a line means is in `period_file`, and what a call does is in `calls` and `allocation`.
+#![tactic(auto)]
+
 mod input;
 mod lines;
 mod output;
@@ -23,7 +25,7 @@ const INPUT_ENDED: u64 = 1;
 
 const STOPPED: u64 = 2;
 
-#[derive(Drop)]
+#[derive(Clone, Copy)]
 pub struct State {
     pub settings: Settings,
     pub phase: u64,

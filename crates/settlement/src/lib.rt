@@ -1,2 +1,4 @@
 // What users link: every call under its name for C.
+#![tactic(auto)]
+
 pub mod exports;

@@ -1,2 +1,4 @@
 // The totals call: network charges by tariff.
+#![tactic(auto)]
+
 pub mod totals;

@@ -1,5 +1,7 @@
 // The words of a row. A registration and a reading are packed into a word, and taken out of it, by shifts and masks. Beside that, one
 // number written over the start of a slice.
+#![tactic(auto)]
+
 ghost use Rattle.std.specs.Prelude.{◌≡◌, true, ◌++◌, ◌+◌, ◌*◌, ◌^◌, ◌≤◌, ◌<◌, length, drop, replicate};
 ghost use Rattle.words.specs.Limits.{direction_most, network_most};
 ghost use Rattle.words.specs.Mpan.{is_mpan};
@@ -15,7 +17,7 @@ pub const NO_READING: u64 = 0;
 
 // How a meter is registered, as numbers of the full width, so that one out of range is seen and never cut.
 #[repr(C)]
-#[derive(Drop)]
+#[derive(Clone, Copy)]
 pub struct Registration {
     pub segment: u64,
     pub direction: u64,
@@ -31,7 +33,7 @@ pub struct Registration {
 
 // A reading: its issue number, its quality code and the consumption in Wh.
 #[repr(C)]
-#[derive(Drop)]
+#[derive(Clone, Copy)]
 pub struct Reading {
     pub issue: u64,
     pub quality: u64,

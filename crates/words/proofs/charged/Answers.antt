@@ -6,8 +6,7 @@ use native.Mathlib.Omega.{arith}
 use lib.Bits.{bit_and, and_mask, and_high, and_block}
 use Rattle.words.specs.Registration.{direction_of, network_of, without_charges}
 use Rattle.words.proofs.Charges.{direction-kept}
-use Rattle.words.proofs.charged.Statement.{statement}
-use Rattle.words.proofs.charged.Tie as tie
+use Rattle.words.proofs.charged.Goals as goal
 
 masked : (w : ℕ) → bit_and w 541165879300 ≡ direction_of w * 2 ^ 2 + network_of w * 2 ^ 33
 unfolding without_charges
@@ -19,8 +18,5 @@ masked w =
     ∙ and_block 33 (w / 2 ^ 33) 63 (w % 2 ^ 33) 4 (omega arith) (omega arith)
     ∙ rw (upper, lower) (add_comm _ _)
 
-returns : tie.Need-returns
+pub returns : goal.returns
 returns c = masked c.args.w
-
-pub charged-spec : {M : Type 1} → statement M
-charged-spec = tie.close (tie.spec returns)

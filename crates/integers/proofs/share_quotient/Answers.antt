@@ -12,8 +12,7 @@ use mir.ValLaws.{to_z-of_z}
 use Rattle.integers.proofs.Linear.{linear}
 use Rattle.integers.proofs.Ring.{neg-times, times-neg}
 use Rattle.integers.proofs.Fit.{Held, held, held-literal, minus-fits, minus-held, tested-lt, tested-ge}
-use Rattle.integers.proofs.share_quotient.Statement.{statement}
-use Rattle.integers.proofs.share_quotient.Tie as tie
+use Rattle.integers.proofs.share_quotient.Goals as goal
 
 -- a with the sign of U
 abbrev signed : ℤ → ℤ → ℤ
@@ -37,26 +36,23 @@ module _ (a : ℤ) (h : nat_abs a ≤ 1400000000000000) where
   signed_above (pos m) s e = rw e a-held
   signed_above (negsuc m) s e = absurd (omega linear)
 
-signed-held : (c : tie.Joined1) → Held c.if1.signed (signed c.before.args.u c.before.args.a) 1400000000000000
+signed-held : (c : goal.Joined-u-lt0) → Held c.if-u-lt0.signed (signed c.args.u c.args.a) 1400000000000000
 signed-held c =
     let s = c.before in
     let h = s.requires.a-bound in
     ⊎_elim
     (λ w. signed_below s.args.a h s.args.u (tested-lt s.args.u (pos 0) s.ranges.u w.0.taken) w.1)
     (λ w. signed_above s.args.a h s.args.u (tested-ge s.args.u (pos 0) s.ranges.u w.0.left) w.1)
-    c.if1.branch
+    c.if-u-lt0.branch
 
-u-size : (c : tie.After-magnitude) → c.magnitude.result ≡ nat_abs c.before.before.args.u
-u-size c = c.magnitude.ensures ∙ ap nat_abs (to_z-of_z w64 _ c.before.before.ranges.u)
+u-size : (c : goal.After-magnitude) → c.magnitude.result ≡ nat_abs c.args.u
+u-size c = c.magnitude.ensures ∙ ap nat_abs (to_z-of_z w64 _ c.ranges.u)
 
-sub-signed : tie.Need-overflow-sub-signed
-sub-signed c = minus-fits (held-literal 0 (lit< tt)) (a-held c.before.args.a c.before.requires.a-bound) (lit< tt)
+pub overflow_sub-signed : goal.overflow_sub-signed
+overflow_sub-signed c = minus-fits (held-literal 0 (lit< tt)) (a-held c.args.a c.requires.a-bound) (lit< tt)
 
-magnitude-requires : tie.Need-magnitude-requires
-magnitude-requires c κs = search rules
-
-product-quotient-requires : tie.Need-product-quotient-requires
-product-quotient-requires c κs =
+pub product_quotient-requires : goal.product_quotient-requires
+product_quotient-requires c =
     let s = c.before.before in
     rw (u-size c, (signed-held c.before).reads, to_z-of_z w64 _ s.ranges.w)
     (record {
@@ -67,10 +63,7 @@ product-quotient-requires c κs =
       u-within-w = s.requires.u-within-w;
     })
 
-returns : tie.Need-returns
+pub returns : goal.returns
 returns c =
     let s = c.before.before.before in
-    rw (u-size c.before, (signed-held c.before.before).reads, to_z-of_z w64 _ s.ranges.w, same-product s.args.u s.args.a) at c.product-quotient.ensures
-
-pub share-quotient-spec : {M : Type 1} → statement M
-share-quotient-spec = tie.close (tie.spec sub-signed magnitude-requires product-quotient-requires returns)
+    rw (u-size c.before, (signed-held c.before.before).reads, to_z-of_z w64 _ s.ranges.w, same-product s.args.u s.args.a) at c.product_quotient.ensures

@@ -1,4 +1,3 @@
--- `product_quotient` meets its contract. The loop's invariant: what is done is the quotient of m / 2^(11 i), the digits taken, times a.
 use mathlib.Core.Path.{◌≡◌, sym, ap, ◌∙◌}
 use Prim.Native.Nat.{ℕ, ◌+◌, ◌-◌, ◌*◌, ◌/◌, ◌%◌, ◌^◌, ◌≤◌, ◌<◌}
 use native.Mathlib.Omega.{arith}
@@ -16,18 +15,8 @@ use Rattle.integers.proofs.Linear.{linear}
 use Rattle.integers.proofs.Ring.{plus_times, times-exchange}
 use Rattle.integers.proofs.Size.{size-positive}
 use Rattle.integers.proofs.Floor.{whole, fraction-below, quotient-most}
-use Rattle.integers.proofs.product_quotient.Statement.{statement}
-use Rattle.integers.proofs.product_quotient.Tie as tie
-
--- the quotient of what the digits from place i on give
-abbrev taken : ℕ → ℤ → ℤ → ℕ → Quotient
-taken m a w i = quotient_of (pos (m / 2 ^ (11 * i)) *ℤ a) (nat_abs w)
-
-abbrev invariant-loop : tie.invariant-loop
-invariant-loop m a w done₀ i₀ done i = (i ≤ 4) × (done ≡ taken m (to_z w64 a) (to_z w64 w) i)
-
-abbrev decreases-loop : tie.decreases-loop
-decreases-loop m a w done₀ i₀ done i = i
+use Rattle.integers.proofs.product_quotient.Invariants.{taken}
+use Rattle.integers.proofs.product_quotient.Goals as goal
 
 -- what is done, times w and with its fraction
 whole_before : (x w : ℤ) {done : Quotient} → pos 0 <ℤ w → done ≡ quotient_of x (nat_abs w) → done.floor *ℤ w +ℤ pos done.fraction ≡ x
@@ -68,53 +57,25 @@ module _ {m : ℕ} {a w : ℤ} (args : ShareArguments (pos m) a w) (i : ℕ) whe
         rw (whole_before _ w args.w-positive e, k, ← (shr-shr m (11 * (i - 1)) 11), with-digit (m / 2 ^ (11 * (i - 1))) a)
 
 -- the arguments as the code reads them
-read : (c : tie.Start invariant-loop decreases-loop) → ShareArguments (pos c.args.m) (to_z w64 (of_z w64 c.args.a)) (to_z w64 (of_z w64 c.args.w))
+read : (c : goal.Start) → ShareArguments (pos c.args.m) (to_z w64 (of_z w64 c.args.a)) (to_z w64 (of_z w64 c.args.w))
 read c = rw (to_z-of_z w64 _ c.ranges.a, to_z-of_z w64 _ c.ranges.w) c.requires
 
-digits-requires : tie.Need-digits-requires invariant-loop decreases-loop
-digits-requires c κs = c.requires.u-bound
+pub digits-i-requires : goal.digits-i-requires
+digits-i-requires c = c.requires.u-bound
 
-loop-holds : tie.Need-loop-init invariant-loop decreases-loop
-loop-holds c = (c.digits.ensures.0, no_digit (read c.before) c.digits.result c.digits.ensures.1)
+pub loop-i-init : goal.loop-i-init
+loop-i-init c = (c.digits-i.ensures.0, no_digit (read c.before) c.digits-i.result c.digits-i.ensures.1)
 
-sub-i : tie.Need-overflow-sub-i invariant-loop decreases-loop
-sub-i c = omega arith
+pub next_digit-done-requires : goal.next_digit-done-requires
+next_digit-done-requires c = digit-arguments (read c.before.before.before) c.loop-i.i c.loop-i.invariant.1
 
-mul-next-digit : tie.Need-overflow-mul-next-digit invariant-loop decreases-loop
-mul-next-digit c = omega arith
+pub loop-i-preserved : goal.loop-i-preserved
+loop-i-preserved c =
+    let l = c.loop-i in
+    (omega arith, c.next_digit-done.ensures ∙ next-taken (read c.before.before.before.before) l.i l.invariant.1 (omega arith))
 
-shr-next-digit : tie.Need-overflow-shr-next-digit invariant-loop decreases-loop
-shr-next-digit c = omega arith
-
-next-digit-requires : tie.Need-next-digit-requires invariant-loop decreases-loop
-next-digit-requires c κs = digit-arguments (read c.before.before.before) c.before.loop.i c.before.loop.invariant.1
-
-loop-less : tie.Need-loop-smaller invariant-loop decreases-loop
-loop-less c = omega arith
-
-loop-again : tie.Need-loop-preserved invariant-loop decreases-loop
-loop-again c =
-    let l = c.before.before.loop in
-    (omega arith, c.next-digit.ensures ∙ next-taken (read c.before.before.before.before) l.i l.invariant.1 (omega arith))
-
-returns : tie.Need-returns invariant-loop decreases-loop
+pub returns : goal.returns
 returns c =
     let s = c.before.before.before in
-    let l = c.before.loop in
+    let l = c.loop-i in
     rw (to_z-of_z w64 _ s.ranges.a, to_z-of_z w64 _ s.ranges.w) at (all_digits (read s) l.i l.invariant.1 (omega arith))
-
-pub product-quotient-spec : {M : Type 1} → statement M
-product-quotient-spec =
-    tie.close
-    (tie.spec
-    invariant-loop
-    decreases-loop
-    digits-requires
-    loop-holds
-    sub-i
-    mul-next-digit
-    shr-next-digit
-    next-digit-requires
-    loop-less
-    loop-again
-    returns)

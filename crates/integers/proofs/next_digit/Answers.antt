@@ -18,8 +18,7 @@ use Rattle.integers.proofs.Ring.{plus_times, times-exchange}
 use Rattle.integers.proofs.Size.{plus-bound}
 use Rattle.integers.proofs.Fit.{Held, held, held-literal, plus-fits, plus-held, times-fits, times-held}
 use Rattle.integers.proofs.Floor.{size-floor, floor-shift, fraction-shift}
-use Rattle.integers.proofs.next_digit.Statement.{statement}
-use Rattle.integers.proofs.next_digit.Tie as tie
+use Rattle.integers.proofs.next_digit.Goals as goal
 
 regrouped : (q w l : ℤ) (r : ℕ) → (q *ℤ w +ℤ pos r) *ℤ pos 2048 +ℤ l ≡ q *ℤ pos 2048 *ℤ w +ℤ (pos r *ℤ pos 2048 +ℤ l)
 regrouped q w l r = rw (plus_times (q *ℤ w) (pos r) (pos 2048), times-exchange q w (pos 2048)) (+ℤ_assoc (q *ℤ pos 2048 *ℤ w) (pos (r * 2048)) l)
@@ -64,46 +63,33 @@ module _ {done : Quotient} {digit : ℕ} {a w : ℤ} (ok : DigitArguments done d
       let y = pos digit *ℤ a in
       held (floor_of left (nat_abs w)) 5733000000000000000 (le_trans (size-floor left (nat_abs w)) (plus-bound x y shifted-held.bound product-held.bound)) (lit< tt)
 
-module _ (c : tie.After-floor-quotient) where
-  abbrev start : tie.Start
+module _ (c : goal.After-floor_quotient-step) where
+  abbrev start : goal.Start
   start = c.before.before
 
-  step_is : c.floor-quotient.result ≡ quotient_of (left start.pre) (nat_abs start.args.w)
-  step_is = rw ((plus-held (shifted-held start.pre) (product-held start.pre) (lit< tt)).reads, to_z-of_z w64 _ start.fits.w) at c.floor-quotient.ensures
+  step_is : c.floor_quotient-step.result ≡ quotient_of (left start.requires) (nat_abs start.args.w)
+  step_is = rw ((plus-held (shifted-held start.requires) (product-held start.requires) (lit< tt)).reads, to_z-of_z w64 _ start.fits.w) at c.floor_quotient-step.ensures
 
-cast-left : tie.Need-overflow-cast-left
-cast-left c = search rules
+pub overflow_mul-left : goal.overflow_mul-left
+overflow_mul-left c = times-fits (fraction-held c.requires) (held-literal 2048 (lit< tt)) (lit< tt)
 
-mul_left : tie.Need-overflow-mul-left
-mul_left c = times-fits (fraction-held c.before.requires) (held-literal 2048 (lit< tt)) (lit< tt)
+pub overflow_mul-left-2 : goal.overflow_mul-left-2
+overflow_mul-left-2 c = times-fits (digit-held c.requires) (a-held c.requires) (lit< tt)
 
-cast-left-2 : tie.Need-overflow-cast-left-2
-cast-left-2 c = search rules
+pub overflow_add-left : goal.overflow_add-left
+overflow_add-left c = plus-fits (shifted-held c.requires) (product-held c.requires) (lit< tt)
 
-mul-left-2 : tie.Need-overflow-mul-left-2
-mul-left-2 c = times-fits (digit-held c.before.requires) (a-held c.before.requires) (lit< tt)
+pub overflow_mul-result : goal.overflow_mul-result
+overflow_mul-result c = times-fits (floor-held c.requires) (held-literal 2048 (lit< tt)) (lit< tt)
 
-add_left : tie.Need-overflow-add-left
-add_left c = plus-fits (shifted-held c.before.requires) (product-held c.before.requires) (lit< tt)
-
-floor-quotient-requires : tie.Need-floor-quotient-requires
-floor-quotient-requires c κs = search rules
-
-mul-t7 : tie.Need-overflow-mul-t7
-mul-t7 c = times-fits (floor-held c.before.before.before.before.requires) (held-literal 2048 (lit< tt)) (lit< tt)
-
-add-t10 : tie.Need-overflow-add-t10
-add-t10 c =
-    let p = c.before.before.before.before.before.before.requires in
+pub overflow_add-result : goal.overflow_add-result
+overflow_add-result c =
+    let p = c.requires in
     rw (step_is c.before.before.before.before) (plus-fits (raised-held p) (step-held p) (lit< tt))
 
-returns : tie.Need-returns
+pub returns : goal.returns
 returns c =
     let s = c.before.before.before.before.before.before in
     let p = s.requires in
     rw (step_is c.before.before.before.before, (plus-held (raised-held p) (step-held p) (lit< tt)).reads)
     (quotient_is s.args.done.floor s.args.w (pos s.args.digit *ℤ s.args.a) s.args.done.fraction p.w-positive)
-
-pub next-digit-spec : {M : Type 1} → statement M
-next-digit-spec =
-    tie.close (tie.spec cast-left mul_left cast-left-2 mul-left-2 add_left floor-quotient-requires mul-t7 add-t10 returns)

@@ -17,8 +17,7 @@ use Rattle.integers.proofs.Order.{lt-true, lt-false}
 use Rattle.integers.proofs.Size.{times-bound}
 use Rattle.integers.proofs.Fit.{fit, Held, held, plus-fits, plus-held, minus-fits, minus-held}
 use Rattle.integers.proofs.Cut.{cut-whole, cut_left, cut-size, cut_fits}
-use Rattle.integers.proofs.nearest_wh.Statement.{statement}
-use Rattle.integers.proofs.nearest_wh.Tie as tie
+use Rattle.integers.proofs.nearest_wh.Goals as goal
 
 abbrev whole : ℤ → ℤ
 whole t = quot_z t (pos 1000)
@@ -64,7 +63,7 @@ rest-size : (t : ℤ) → nat_abs (rest t) ≤ 999
 rest-size t = omega (arith, cut_left t 1000 (lit< tt))
 
 -- what the code holds of them
-module _ (c : tie.Start) where
+module _ (c : goal.Start) where
   abbrev t : ℤ
   t = c.args.thousandths
 
@@ -90,7 +89,7 @@ adds-as : (t e : ℤ) {a b : ℕ} → a ≡ b → Held b e 1 → whole t +ℤ e 
 adds-as t e same h r = record { e = e; holds = rw same h; rounds = r }
 
 -- by what the two tests told
-adds : (c : tie.Joined1) → Adds (t c.before) c.if1.away
+adds : (c : goal.Joined-rest-ltminus499) → Adds (t c.before) c.if-rest-ltminus499.away
 adds c =
     let s = c.before in
     let read-rest = (rest-held s).reads in
@@ -99,7 +98,7 @@ adds c =
     (⊎_elim
     (λ above. adds-as (t s) (pos 1) above.2 (held (pos 1) 1 (omega arith) (lit< tt)) (one_up (t s) (lt-true _ _ (rw read-rest at above.1.taken))))
     (λ between. adds-as (t s) (pos 0) between.2 (held (pos 0) 1 (omega arith) (lit< tt)) (none_more (t s) (lt-false _ _ (rw read-rest at between.0.left)) (lt-false _ _ (rw read-rest at between.1.left)))))
-    c.if1.branch
+    c.if-rest-ltminus499.branch
 
 -- times however many thousandths the code takes off for a Wh
 module _ {a : ℕ} {e : ℤ} (h : Held a e 1) (n : ℕ) (small : n * 1 < 2 ^ 63) where
@@ -112,28 +111,25 @@ module _ {a : ℕ} {e : ℤ} (h : Held a e 1) (n : ℕ) (small : n * 1 < 2 ^ 63)
   off-held : Held (of_z w64 (pos n *ℤ to_z w64 a)) (pos n *ℤ e) (n * 1)
   off-held = rw h.reads (held (pos n *ℤ e) (n * 1) off-bound small)
 
-div-whole : tie.Need-nonzero-div-whole
-div-whole c = (lit< tt, divides c)
+pub nonzero_div-whole : goal.nonzero_div-whole
+nonzero_div-whole c = (lit< tt, divides c)
 
-rem-rest : tie.Need-nonzero-rem-rest
-rem-rest c = (lit< tt, divides c)
+pub nonzero_rem-rest : goal.nonzero_rem-rest
+nonzero_rem-rest c = (lit< tt, divides c)
 
-add-t9 : tie.Need-overflow-add-t9
-add-t9 c = plus-fits (whole-held c.before) (adds c).holds (lit< tt)
+pub overflow_add-result : goal.overflow_add-result
+overflow_add-result c = plus-fits (whole-held c.before) (adds c).holds (lit< tt)
 
-mul-t10 : tie.Need-overflow-mul-t10
-mul-t10 c = off-fits (adds c).holds _ (lit< tt)
+pub overflow_mul-result : goal.overflow_mul-result
+overflow_mul-result c = off-fits (adds c).holds _ (lit< tt)
 
-sub-t11 : tie.Need-overflow-sub-t11
-sub-t11 c = minus-fits (rest-held c.before) (off-held (adds c).holds _ (lit< tt)) (lit< tt)
+pub overflow_sub-result : goal.overflow_sub-result
+overflow_sub-result c = minus-fits (rest-held c.before) (off-held (adds c).holds _ (lit< tt)) (lit< tt)
 
-returns : tie.Need-returns
+pub returns : goal.returns
 returns c =
     let s = c.before in
     let x = adds c in
     ap₂ (λ (w d : ℤ). record { wh = w; dropped = d })
     ((plus-held (whole-held s) x.holds (lit< tt)).reads ∙ x.rounds)
     ((minus-held (rest-held s) (off-held x.holds _ (lit< tt)) (lit< tt)).reads ∙ left_over (t s) x.e x.rounds)
-
-pub nearest-wh-spec : {M : Type 1} → statement M
-nearest-wh-spec = tie.close (tie.spec div-whole rem-rest add-t9 mul-t10 sub-t11 returns)

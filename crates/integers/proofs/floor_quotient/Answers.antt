@@ -11,15 +11,14 @@ use Rattle.integers.proofs.Order.{lt-true, lt-false, le_of_lt}
 use Rattle.integers.proofs.Size.{size-positive}
 use Rattle.integers.proofs.Fit.{cast_fits}
 use Rattle.integers.proofs.Cut.{cut_fits, left-fits, cut-above, cut_below, one_less_fits, raised-low, raised-fits}
-use Rattle.integers.proofs.floor_quotient.Statement.{statement}
-use Rattle.integers.proofs.floor_quotient.Tie as tie
+use Rattle.integers.proofs.floor_quotient.Goals as goal
 
 positive-bits : (d : ℤ) → pos 0 <ℤ d → 0 < of_z w64 d
 positive-bits (pos n) p = ltb→lt 0 n p.lt
 positive-bits (negsuc n) p = absurd p.lt
 
 -- what the code divides, and what it holds then
-module _ (c : tie.Start) where
+module _ (c : goal.Start) where
   abbrev x : ℤ
   x = c.args.x
 
@@ -56,46 +55,42 @@ module _ (c : tie.Start) where
     raised = raised-fits x d positive h (rw d-is at c.ranges.d)
 
 -- the sign that the test found
-negative : (c : tie.Then1) → rem_z (x c.before) (pos (d c.before)) <ℤ pos 0
-negative c = lt-true _ _ (rw (remainder_is c.before) at c.if1.true)
+negative : (c : goal.Then-remainder-lt0) → rem_z (x c.before) (pos (d c.before)) <ℤ pos 0
+negative c = lt-true _ _ (rw (remainder_is c.before) at c.if-remainder-lt0.true)
 
-nonnegative : (c : tie.Else1) → pos 0 ≤ℤ rem_z (x c.before) (pos (d c.before))
-nonnegative c = lt-false _ _ (rw (remainder_is c.before) at c.if1.false)
+nonnegative : (c : goal.Else-remainder-lt0) → pos 0 ≤ℤ rem_z (x c.before) (pos (d c.before))
+nonnegative c = lt-false _ _ (rw (remainder_is c.before) at c.if-remainder-lt0.false)
 
-div-quotient : tie.Need-nonzero-div-quotient
-div-quotient c = divides c
+pub nonzero_div-quotient : goal.nonzero_div-quotient
+nonzero_div-quotient c = divides c
 
-rem-remainder : tie.Need-nonzero-rem-remainder
-rem-remainder c = divides c
+pub nonzero_rem-remainder : goal.nonzero_rem-remainder
+nonzero_rem-remainder c = divides c
 
-sub-t6 : tie.Need-overflow-sub-t6
-sub-t6 c = rw (quotient_is c.before) (less c.before (negative c))
+pub overflow_sub-result : goal.overflow_sub-result
+overflow_sub-result c = rw (quotient_is c.before) (less c.before (negative c))
 
-add-t7 : tie.Need-overflow-add-t7
-add-t7 c = rw (remainder_is c.before, read-d c.before) (raised c.before (negative c))
+pub overflow_add-result : goal.overflow_add-result
+overflow_add-result c = rw (remainder_is c.before, read-d c.before) (raised c.before (negative c))
 
-cast-t8 : tie.Need-overflow-cast-t8
-cast-t8 c =
+pub overflow_cast-result : goal.overflow_cast-result
+overflow_cast-result c =
     let s = c.before in
     let f = raised s (negative c) in
     rw (remainder_is s, read-d s, to_z-of_z w64 _ f) (cast_fits _ f (raised-low (x s) (d s) (positive s) (negative c)))
 
-returns : tie.Need-returns
-returns c =
+pub returns-then-remainder-lt0 : goal.returns-then-remainder-lt0
+returns-then-remainder-lt0 c =
     let s = c.before in
     rw (quotient_is s, remainder_is s, read-d s, to_z-of_z w64 _ (less s (negative c)), to_z-of_z w64 _ (raised s (negative c)))
     (cut_below (x s) (d s) (positive s) (negative c))
 
-cast-t9 : tie.Need-overflow-cast-t9
-cast-t9 c =
+pub overflow_cast-result-2 : goal.overflow_cast-result-2
+overflow_cast-result-2 c =
     let s = c.before in
     rw (remainder_is s) (cast_fits _ (left-fits (x s) (pos (d s)) s.ranges.x) (nonnegative c))
 
-returns-2 : tie.Need-returns-2
-returns-2 c =
+pub returns : goal.returns
+returns c =
     let s = c.before in
     rw (quotient_is s, remainder_is s) (cut-above (x s) (d s) (positive s) (nonnegative c))
-
-pub floor-quotient-spec : {M : Type 1} → statement M
-floor-quotient-spec =
-    tie.close (tie.spec div-quotient rem-remainder sub-t6 add-t7 cast-t8 returns cast-t9 returns-2)
