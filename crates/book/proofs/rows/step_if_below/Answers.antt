@@ -7,8 +7,7 @@ use native.Mathlib.Omega.{arith}
 use borrow.Author.Rules.{rules}
 use borrow.Author.Tests.{ltb-true, ltb-false}
 use lib.Dec.{ltb}
-use Rattle.book.proofs.rows.step_if_below.Statement.{statement}
-use Rattle.book.proofs.rows.step_if_below.Tie as tie
+use Rattle.book.proofs.rows.step_if_below.Goals as goal
 
 abbrev top_bit : ℕ → ℕ → ℕ
 top_bit a b = (a + (2 ^ 63 - b)) / 2 ^ 63
@@ -28,20 +27,11 @@ module _ (a b step : ℕ) (ha : a < 2 ^ 63) (hb : b ≤ 2 ^ 63) where
   by-step true e = rw (by-test true e) (omega arith)
   by-step false e = rw (by-test false e) (omega arith)
 
-sub-at-least : tie.Need-overflow-sub-at-least
-sub-at-least c = search rules
+pub overflow_mul-result : goal.overflow_mul-result
+overflow_mul-result c = omega (arith, (by-step c.args.a c.args.b c.args.step c.requires.fact_1 c.requires.fact_2 (ltb c.args.a c.args.b) refl).0)
 
-add-at-least : tie.Need-overflow-add-at-least
-add-at-least c = search rules
+pub overflow_sub-result : goal.overflow_sub-result
+overflow_sub-result c = (by-step c.args.a c.args.b c.args.step c.requires.fact_1 c.requires.fact_2 (ltb c.args.a c.args.b) refl).0
 
-mul-result : tie.Need-overflow-mul-result
-mul-result c = omega (arith, (by-step c.args.a c.args.b c.args.step c.requires.0 c.requires.1 (ltb c.args.a c.args.b) refl).0)
-
-sub-result : tie.Need-overflow-sub-result
-sub-result c = (by-step c.args.a c.args.b c.args.step c.requires.0 c.requires.1 (ltb c.args.a c.args.b) refl).0
-
-returns : tie.Need-returns
-returns c = (by-step c.args.a c.args.b c.args.step c.requires.0 c.requires.1 (ltb c.args.a c.args.b) refl).1
-
-pub step-if-below-spec : {M : Type 1} → statement M
-step-if-below-spec = tie.close (tie.spec sub-at-least add-at-least mul-result sub-result returns)
+pub returns : goal.returns
+returns c = (by-step c.args.a c.args.b c.args.step c.requires.fact_1 c.requires.fact_2 (ltb c.args.a c.args.b) refl).1

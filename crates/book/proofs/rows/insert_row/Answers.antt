@@ -9,8 +9,7 @@ use borrow.Author.Rules.{rules}
 use Rattle.book.specs.Rows.{new_row, rows_of, written}
 use Rattle.book.proofs.RowsOf.{first_three, length-rows, words-of-rows}
 use Rattle.book.proofs.Written.{written-cons}
-use Rattle.book.proofs.rows.insert_row.Statement.{statement}
-use Rattle.book.proofs.rows.insert_row.Tie as tie
+use Rattle.book.proofs.rows.insert_row.Goals as goal
 
 -- the rows behind a new first row, written: their words as they were, three places up
 later_rows_lem : (later : ℕ) (part : List ℕ) → 3 * later ≤ length part → written (rows_of later part) (drop 3 part) ≡ take (3 * later) part ++ drop (3 * later + 3) part
@@ -22,37 +21,13 @@ later_rows_lem later part h =
 inserted : (later m registration : ℕ) (part moved : List ℕ) → 3 * (later + 1) ≤ length part → moved ≡ take 3 part ++ take (3 * later) part ++ drop (3 * later + 3) part → set (set (set moved 0 m) 1 registration) 2 0 ≡ written (new_row m registration ∷ rows_of later part) part
 inserted later m registration part moved h e = rw (e, first_three part (omega arith), written-cons, later_rows_lem later part (omega arith))
 
-mul-move-up : tie.Need-overflow-mul-move-up
-mul-move-up c = search rules
+pub bounds-part-1 : goal.bounds-part-1
+bounds-part-1 c = simp length-set (omega arith)
 
-move-up-requires : tie.Need-move-up-requires
-move-up-requires c κs = search rules
+pub bounds-part-2 : goal.bounds-part-2
+bounds-part-2 c = simp length-set (omega arith)
 
-slice-write-part : tie.Need-slice-write-part
-slice-write-part c = search rules
-
-slice-write-part-2 : tie.Need-slice-write-part-2
-slice-write-part-2 c = simp length-set (omega arith)
-
-slice-write-part-3 : tie.Need-slice-write-part-3
-slice-write-part-3 c = simp length-set (omega arith)
-
-same_length : tie.Need-same-length
-same_length c = search rules
-
-returns : tie.Need-returns
+pub returns : goal.returns
 returns c =
-    let args = c.before.before.before.before.before.args in
-    inserted args.later args.m args.registration args.part.now c.before.before.move_up.new.0 c.before.before.before.before.before.requires c.before.before.move_up.ensures
-
-pub insert-row-spec : {M : Type 1} → statement M
-insert-row-spec =
-    tie.close
-    (tie.spec
-    mul-move-up
-    move-up-requires
-    slice-write-part
-    slice-write-part-2
-    slice-write-part-3
-    same_length
-    returns)
+    let args = c.args in
+    inserted args.later args.m args.registration args.part-1.now c.move_up.new.0 c.requires c.move_up.ensures

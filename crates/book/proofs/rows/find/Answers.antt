@@ -9,8 +9,7 @@ use borrow.Author.Rules.{rules}
 use Rattle.book.specs.Rows.{rows_of, rows_formed}
 use Rattle.book.specs.Helpers.{place_of, place_in}
 use Rattle.book.proofs.PlaceOf.{known-none-in, known-at-in}
-use Rattle.book.proofs.rows.find.Statement.{statement}
-use Rattle.book.proofs.rows.find.Tie as tie
+use Rattle.book.proofs.rows.find.Goals as goal
 
 module _ (words : List ℕ) (n m index : ℕ) (e : index ≡ place_of m (rows_of n words)) where
   no_row : n ≤ index → record { index = index; known = false } ≡ place_in m (rows_of n words)
@@ -19,30 +18,14 @@ module _ (words : List ℕ) (n m index : ℕ) (e : index ≡ place_of m (rows_of
   a-row : rows_formed 0 (rows_of n words) ≡ true → index < n → record { index = index; known = eqb (get_or words (3 * index) 0) m } ≡ place_in m (rows_of n words)
   a-row f h = rw (e, known-at-in words n m f (rw e at h))
 
-lower-bound-requires : tie.Need-lower-bound-requires
-lower-bound-requires c κs = search rules
-
-returns : tie.Need-returns
-returns c =
+pub returns-then-n-index : goal.returns-then-n-index
+returns-then-n-index c =
     let at_call = c.before in
     let start = at_call.before.before in
-    no_row start.args.rows.now start.args.n start.args.m at_call.lower-bound.result at_call.lower-bound.ensures c.if1.true
+    no_row start.args.rows.now start.args.n start.args.m at_call.lower_bound-index.result at_call.lower_bound-index.ensures c.if-n-index.true
 
-mul-t6 : tie.Need-overflow-mul-t6
-mul-t6 c = search rules
-
-mul-t7 : tie.Need-overflow-mul-t7
-mul-t7 c = search rules
-
-shared-slice-read-t9 : tie.Need-shared-slice-read-t9
-shared-slice-read-t9 c = search rules
-
-returns-2 : tie.Need-returns-2
-returns-2 c =
+pub returns : goal.returns
+returns c =
     let at_call = c.before.before in
     let start = at_call.before.before in
-    a-row start.args.rows.now start.args.n start.args.m at_call.lower-bound.result at_call.lower-bound.ensures start.requires.1 c.before.if1.false
-
-pub find_spec : {M : Type 1} → statement M
-find_spec =
-    tie.close (tie.spec lower-bound-requires returns mul-t6 mul-t7 shared-slice-read-t9 returns-2)
+    a-row start.args.rows.now start.args.n start.args.m at_call.lower_bound-index.result at_call.lower_bound-index.ensures start.requires.fact_2 c.if-n-index.false

@@ -12,8 +12,7 @@ use mir.Val.{SFits, of_z}
 use mir.ValLaws.{to_z-of_z}
 use Rattle.book.specs.Limits.{take_flag_unset, take_flag_set}
 use Rattle.book.specs.Settings.{is_take, take_formed}
-use Rattle.book.proofs.formed.take_formed.Statement.{statement}
-use Rattle.book.proofs.formed.take_formed.Tie as tie
+use Rattle.book.proofs.formed.take_formed.Goals as goal
 
 zero_bits : (z : ℤ) → SFits w64 z → eqb (of_z w64 z) 0 ≡ eqb (nat_abs z) 0
 zero_bits (pos n) h = refl
@@ -21,17 +20,11 @@ zero_bits (negsuc n) h =
     let f = h.sfits in
     ne_eqb (2 ^ 64 - suc n) 0 (omega arith) ∙ sym (ne_eqb (suc n) 0 (omega arith))
 
-is-take-requires : tie.Need-is-take-requires
-is-take-requires c κs = search rules
-
-returns : tie.Need-returns
+pub returns : goal.returns
 unfolding take_formed
 returns c =
     let s = c.before in
     let wh = s.args.wh in
     ap₂ (λ a b. (eqb s.args.flag take_flag_unset && a) || (eqb s.args.flag take_flag_set && b))
     (zero_bits wh s.ranges.wh)
-    (c.is-take.ensures ∙ ap is_take (to_z-of_z w64 wh s.ranges.wh))
-
-pub take-formed-spec : {M : Type 1} → statement M
-take-formed-spec = tie.close (tie.spec is-take-requires returns)
+    (c.is_take.ensures ∙ ap is_take (to_z-of_z w64 wh s.ranges.wh))
