@@ -16,3 +16,4 @@ pub mod Parts
 pub mod BookFormed
 pub mod StoredFormed
 pub mod Charges
+pub mod Placed

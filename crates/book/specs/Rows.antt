@@ -1,5 +1,5 @@
 -- "The rows stand in a lent slice of 64-bit words, three words a meter, in strictly rising order of MPAN".
-use Rattle.std.specs.Prelude.{ℕ, zero, suc, ◌+◌, ◌*◌, ◌/◌, min, Bool, true, false, ◌&&◌, cond, List, [], ◌∷◌, ◌++◌, ltb, eqb, length, get_or, drop}
+use Rattle.std.specs.Prelude.{ℕ, zero, suc, ◌*◌, ◌/◌, min, Bool, true, false, ◌&&◌, cond, List, [], ◌∷◌, ◌++◌, ltb, eqb, length, get_or, drop}
 use Rattle.words.specs.Mpan.{is_mpan}
 use Rattle.words.specs.Registration.{is_registration, without_charges}
 use Rattle.words.specs.Reading.{is_reading, no_reading, issue_of}

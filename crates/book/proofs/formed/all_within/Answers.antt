@@ -1,12 +1,11 @@
-use Prim.Native.Nat.{ℕ, ◌≤◌, ◌-◌}
+use Prim.Native.Nat.{ℕ}
 use mathlib.Core.Path.{◌≡◌}
 use mathlib.Core.Bool.{◌||◌}
 use lib.Dec.{leb, eqb}
 use native.Mathlib.Omega.{arith}
 use borrow.Author.Rules.{rules}
-use lib.ListN.{length}
 use Rattle.book.specs.Helpers.{within}
-use Rattle.book.proofs.AllOf.{Left, all_left, one-tested, none_left}
+use Rattle.book.proofs.AllOf.{all_left, one-tested, none_left}
 use Rattle.book.proofs.formed.all_within.Goals as goal
 
 -- the test of an entry, as the function's definition has it

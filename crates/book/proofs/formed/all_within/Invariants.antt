@@ -1,13 +1,8 @@
 -- `all_within` is the test of every number of the slice: what was told of those before `i` and those from `i` on decide. Assumes nothing.
-use Prim.Native.Nat.{ℕ, ◌≤◌, ◌-◌}
-use mathlib.Core.Path.{◌≡◌}
-use mathlib.Core.Bool.{◌||◌}
-use lib.Dec.{leb, eqb}
-use native.Mathlib.Omega.{arith}
-use borrow.Author.Rules.{rules}
+use Prim.Native.Nat.{◌≤◌, ◌-◌}
 use lib.ListN.{length}
 use Rattle.book.specs.Helpers.{within}
-use Rattle.book.proofs.AllOf.{Left, all_left, one-tested, none_left}
+use Rattle.book.proofs.AllOf.{Left}
 use Rattle.book.proofs.formed.all_within.Given as goal
 
 abbrev pub invariant-loop-i : goal.invariant-loop-i

@@ -1,10 +1,6 @@
 -- `rows_formed` is the test of the rows: those from row `i` on, after the MPAN before them, decide. Assumes nothing.
 use Prim.Native.Nat.{◌≤◌, ◌-◌}
-use mathlib.Core.Path.{sym, ◌∙◌}
-use native.Mathlib.Omega.{arith}
-use borrow.Author.Rules.{rules}
-use borrow.Author.Tests.{not-true, not-false}
-use Rattle.book.proofs.RowsFormed.{RowsLeft, all-rows-left, row-passes, row-fails, no-row-left}
+use Rattle.book.proofs.RowsFormed.{RowsLeft}
 use Rattle.book.proofs.formed.rows_formed.Given as goal
 
 abbrev pub invariant-loop-i : goal.invariant-loop-i

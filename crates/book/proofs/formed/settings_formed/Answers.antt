@@ -30,7 +30,7 @@ unfolding settings_formed
 returns c =
     let s = c.args.s in
     four
-    (c.all_within.ensures ∙ weights-within s.weights-1)
+    (c.all_within.ensures ∙ weights-within s.weights)
     c.all_within-2.ensures
     (c.is_tolerance.ensures ∙ ap is_tolerance c.wide.ensures)
     (c.take_formed.ensures ∙ ap (take_formed s.take_set) (to_z-of_z w64 s.take_wh (search rules)))

@@ -1,5 +1,4 @@
 -- `reading_in_range` is the range test of a reading call. Assumes nothing.
-use borrow.Author.Rules.{rules}
 use Rattle.book.proofs.ranges.reading_in_range.Goals as goal
 
 pub returns : goal.returns

@@ -1,5 +1,4 @@
 -- `register_in_range` is the range test of a register call. Assumes nothing.
-use borrow.Author.Rules.{rules}
 use Rattle.book.proofs.ranges.register_in_range.Goals as goal
 
 pub returns : goal.returns

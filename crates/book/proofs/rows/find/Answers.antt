@@ -5,7 +5,6 @@ use mathlib.Core.Bool.{true, false}
 use mathlib.Core.List.{List}
 use lib.Dec.{eqb}
 use lib.ListN.{get_or}
-use borrow.Author.Rules.{rules}
 use Rattle.book.specs.Rows.{rows_of, rows_formed}
 use Rattle.book.specs.Helpers.{place_of, place_in}
 use Rattle.book.proofs.PlaceOf.{known-none-in, known-at-in}

@@ -5,7 +5,6 @@ use mathlib.Core.List.{List, ◌∷◌, ◌++◌}
 use native.Mathlib.Omega.{arith}
 use lib.ListN.{length, set, take, drop, length-set}
 use lib.Seq.{drop-drop}
-use borrow.Author.Rules.{rules}
 use Rattle.book.specs.Rows.{new_row, rows_of, written}
 use Rattle.book.proofs.RowsOf.{first_three, length-rows, words-of-rows}
 use Rattle.book.proofs.Written.{written-cons}
@@ -30,4 +29,4 @@ bounds-part-2 c = simp length-set (omega arith)
 pub returns : goal.returns
 returns c =
     let args = c.args in
-    inserted args.later args.m args.registration args.part-1.now c.move_up.new.0 c.requires c.move_up.ensures
+    inserted args.later args.m args.registration args.part.now c.move_up.new.part c.requires c.move_up.ensures

@@ -4,7 +4,6 @@ use mathlib.Core.Logic.{◌⊎◌, inl, inr, ⊎_elim}
 use mathlib.Core.Bool.{Bool, true, false, cond}
 use mathlib.Core.List.{List}
 use native.Mathlib.Omega.{arith}
-use borrow.Author.Rules.{rules}
 use borrow.Author.Tests.{ltb-true, ltb-false}
 use lib.Dec.{ltb}
 use lib.ListN.{get_or}
@@ -72,9 +71,11 @@ loop-left-init c =
 
 pub step_if_below-low-requires : goal.step_if_below-low-requires
 step_if_below-low-requires c =
-    let at-loop = c.before.before in
-    let start = at-loop.before.before.before.before.before.before in
-    (row_small start.args.rows.now start.args.n start.args.m start.requires.fact_2 (at-loop.loop-left.low + at-loop.loop-left.left / 2) (omega arith), omega arith)
+    let args = c.args in
+    record {
+      fact_1 = row_small args.rows.now args.n args.m c.requires.fact_2 (c.loop-left.low + c.loop-left.left / 2) (omega arith);
+      fact_2 = omega arith;
+    }
 
 pub overflow_add-low : goal.overflow_add-low
 overflow_add-low c = ⊎_elim (λ w. omega arith) (λ w. omega arith) (turn c)
@@ -84,9 +85,8 @@ loop-left-preserved c = ⊎_elim (λ w. omega arith) (λ w. omega arith) (turn c
 
 pub step_if_below-requires : goal.step_if_below-requires
 step_if_below-requires c =
-    let at-loop = c.before.before in
-    let start = at-loop.before.before.before.before.before.before in
-    (row_small start.args.rows.now start.args.n start.args.m start.requires.fact_2 at-loop.loop-left.low (omega arith), omega arith)
+    let args = c.args in
+    record { fact_1 = row_small args.rows.now args.n args.m c.requires.fact_2 c.loop-left.low (omega arith); fact_2 = omega arith }
 
 pub overflow_add-result : goal.overflow_add-result
 overflow_add-result c = ⊎_elim (λ w. omega arith) (λ w. omega arith) (last c)

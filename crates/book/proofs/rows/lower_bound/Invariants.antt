@@ -1,18 +1,7 @@
 -- `lower_bound` is the place of m: it is at least `low` and at most `low + left`, and `left` comes down to 1. Assumes nothing.
-use Prim.Native.Nat.{ℕ, ◌+◌, ◌*◌, ◌-◌, ◌/◌, ◌^◌, ◌≤◌, ◌<◌, min}
-use mathlib.Core.Path.{◌≡◌, refl}
-use mathlib.Core.Logic.{◌⊎◌, inl, inr, ⊎_elim}
-use mathlib.Core.Bool.{Bool, true, false, cond}
-use mathlib.Core.List.{List}
-use native.Mathlib.Omega.{arith}
-use borrow.Author.Rules.{rules}
-use borrow.Author.Tests.{ltb-true, ltb-false}
-use lib.Dec.{ltb}
-use lib.ListN.{get_or}
-use Rattle.book.specs.Rows.{rows_of, rows_formed}
+use Prim.Native.Nat.{◌+◌, ◌≤◌}
+use Rattle.book.specs.Rows.{rows_of}
 use Rattle.book.specs.Helpers.{place_of}
-use Rattle.book.proofs.Rising.{mpan-small}
-use Rattle.book.proofs.PlaceOf.{place-within-in, before-place-in, place-before-in, mpan-in}
 use Rattle.book.proofs.rows.lower_bound.Given as goal
 
 abbrev pub invariant-loop-left : goal.invariant-loop-left

@@ -1,10 +1,9 @@
 -- `move_up` moves the first words three places up: those from `i` on have moved. Assumes nothing.
-use Prim.Native.Nat.{ℕ, suc, ◌+◌, ◌-◌, ◌≤◌, ◌<◌}
-use mathlib.Core.Path.{◌≡◌, refl, sym, ◌∙◌, ap}
-use mathlib.Core.List.{List, ◌∷◌, ◌++◌, append_assoc, append-nil}
-use native.Mathlib.Omega.{arith}
-use lib.ListN.{length, get_or, set, take, drop, length-set, take-append-drop, get_or-append}
-use lib.Seq.{slice, slice_empty, slice-cons, length-take-le, take-suc, get_or-take, set_at}
+use Prim.Native.Nat.{ℕ, ◌+◌, ◌≤◌}
+use mathlib.Core.Path.{◌≡◌}
+use mathlib.Core.List.{List, ◌++◌}
+use lib.ListN.{length, take, drop}
+use lib.Seq.{slice}
 use Rattle.book.proofs.rows.move_up.Given as goal
 
 -- the words with those from i up to `count` three places up

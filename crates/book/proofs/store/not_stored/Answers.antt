@@ -1,5 +1,4 @@
 -- `not_stored` is the answer of a refusal. Assumes nothing.
-use borrow.Author.Rules.{rules}
 use Rattle.book.proofs.store.not_stored.Goals as goal
 
 pub returns : goal.returns
