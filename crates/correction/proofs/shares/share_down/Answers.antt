@@ -1,4 +1,3 @@
--- `share_down` meets its contract. The loop's invariant: the floors and fractions of the units passed are filled in. Assumes nothing.
 use Prim.Native.Nat.{ℕ, ◌+◌, ◌-◌, ◌≤◌, ◌<◌}
 use mathlib.Core.Path.{◌≡◌, sym, ◌∙◌}
 use mathlib.Core.List.{List}
@@ -20,20 +19,13 @@ use Rattle.correction.specs.Helpers.{ShareDownArguments, SharedDown}
 use Rattle.correction.proofs.Apportioned.{share-split, fraction-split}
 use Rattle.correction.proofs.Filled.{Filled, filled_none, filled_next, filled-all}
 use Rattle.correction.proofs.Pairs.{no_sums, pairs-at, pairs-length}
-use Rattle.correction.proofs.shares.share_down.Statement.{statement}
-use Rattle.correction.proofs.shares.share_down.Tie as tie
+use Rattle.correction.proofs.shares.share_down.Goals as goal
 
 -- the floors and fractions of the first i units are filled in
 record Done (u w : ℤ) (nets weighted floors : List ℤ) (fractions : List ℕ) (i : ℕ) : Type 0 where
   floors-long : length floors ≡ units
   floors-done : Filled (share_floor u w) (pairs_of nets weighted) floors i
   fractions-done : Filled (share_fraction u w) (pairs_of nets weighted) fractions i
-
-abbrev invariant-loop : tie.invariant-loop
-invariant-loop u w nets weighted floors₀ fractions₀ unit₀ floors fractions unit = (unit ≤ 32) × Done (to_z w64 u) (to_z w64 w) nets weighted floors fractions unit
-
-abbrev decreases-loop : tie.decreases-loop
-decreases-loop u w nets weighted floors₀ fractions₀ unit₀ floors fractions unit = 32 - unit
 
 module _ {u w : ℤ} {nets weighted floors₀ : List ℤ} {fractions₀ : List ℕ} (args : ShareDownArguments u w nets weighted floors₀ fractions₀) where
   as_many : length nets ≡ length weighted
@@ -105,102 +97,52 @@ module _ {u w : ℤ} {nets weighted floors₀ : List ℤ} {fractions₀ : List �
           fractions-done = rw (← fraction-is) (filled_next _ _ _ i no_sums d.fractions-done (omega (arith, sums-long)));
         }
 
-loop-holds : tie.Need-loop-init invariant-loop decreases-loop
-loop-holds c = (omega arith, rw (to_z-of_z w64 _ c.ranges.u, to_z-of_z w64 _ c.ranges.w) (none_done c.requires))
+module _ (c : goal.After-share_quotient-arg-1) where
+  read-u : to_z w64 (of_z w64 c.args.u) ≡ c.args.u
+  read-u = to_z-of_z w64 _ c.ranges.u
 
-mul-share-quotient : tie.Need-overflow-mul-share-quotient invariant-loop decreases-loop
-mul-share-quotient c = omega arith
-
-element-copy-out-share-quotient : tie.Need-element-copy-out-share-quotient invariant-loop decreases-loop
-element-copy-out-share-quotient c = omega arith
-
-module _ (c : tie.After-share-quotient-arg invariant-loop decreases-loop) where
-  read-u : to_z w64 (of_z w64 c.before.before.before.args.u) ≡ c.before.before.before.args.u
-  read-u = to_z-of_z w64 _ c.before.before.before.ranges.u
-
-  read-w : to_z w64 (of_z w64 c.before.before.before.args.w) ≡ c.before.before.before.args.w
-  read-w = to_z-of_z w64 _ c.before.before.before.ranges.w
+  read-w : to_z w64 (of_z w64 c.args.w) ≡ c.args.w
+  read-w = to_z-of_z w64 _ c.ranges.w
 
   abbrev a : ℤ
-  a = get_or c.before.before.before.args.weighted.now c.before.before.loop.unit (pos 0)
+  a = get_or c.args.weighted.now c.loop-unit.unit (pos 0)
 
   read_a : to_z w64 (of_z w64 a) ≡ a
-  read_a = to_z-of_z w64 _ (fit a 1400000000000000 (c.before.before.before.requires.weighted-bound c.before.before.loop.unit) (omega arith))
+  read_a = to_z-of_z w64 _ (fit a 1400000000000000 (c.requires.weighted-bound c.loop-unit.unit) (omega arith))
 
-share-quotient-requires : tie.Need-share-quotient-requires invariant-loop decreases-loop
-share-quotient-requires c κs = rw (read-u c, read_a c, read-w c) (share-arguments c.before.before.before.requires c.before.before.loop.unit)
+module _ (c : goal.After-share_quotient-q) where
+  quotient_is : c.share_quotient-q.result ≡ quotient_of (c.args.u *ℤ a c.before) (nat_abs c.args.w)
+  quotient_is = rw (read-u c.before, read_a c.before, read-w c.before) at c.share_quotient-q.ensures
 
-module _ (c : tie.After-share-quotient invariant-loop decreases-loop) where
-  quotient_is : c.share-quotient.result ≡ quotient_of (c.before.before.before.before.args.u *ℤ a c.before) (nat_abs c.before.before.before.before.args.w)
-  quotient_is = rw (read-u c.before, read_a c.before, read-w c.before) at c.share-quotient.ensures
+pub loop-unit-init : goal.loop-unit-init
+loop-unit-init c = (omega arith, rw (to_z-of_z w64 _ c.ranges.u, to_z-of_z w64 _ c.ranges.w) (none_done c.requires))
 
-mul-floor : tie.Need-overflow-mul-floor invariant-loop decreases-loop
-mul-floor c = omega arith
+pub share_quotient-q-requires : goal.share_quotient-q-requires
+share_quotient-q-requires c = rw (read-u c, read_a c, read-w c) (share-arguments c.requires c.loop-unit.unit)
 
-element-copy-out-floor : tie.Need-element-copy-out-floor invariant-loop decreases-loop
-element-copy-out-floor c = omega arith
-
-add-floor : tie.Need-overflow-add-floor invariant-loop decreases-loop
-add-floor c =
+pub overflow_add-floor : goal.overflow_add-floor
+overflow_add-floor c =
     let s = c.before.before.before.before.before.before.before in
-    let i = c.before.before.before.before.before.before.loop.unit in
-    rw (quotient_is c.before.before.before) (plus-fits (net-held s.requires i) (correction-held s.requires i) (omega arith))
+    let i = c.loop-unit.unit in
+    rw (quotient_is c.before.before.before.before) (plus-fits (net-held s.requires i) (correction-held s.requires i) (omega arith))
 
-mul-floor-2 : tie.Need-overflow-mul-floor-2 invariant-loop decreases-loop
-mul-floor-2 c = omega arith
+pub bounds-floors-unit : goal.bounds-floors-unit
+bounds-floors-unit c = omega (arith, c.loop-unit.invariant.1.floors-long)
 
-slice-set-from-floor : tie.Need-slice-set-from-floor invariant-loop decreases-loop
-slice-set-from-floor c = omega (arith, c.before.before.before.before.before.before.loop.invariant.1.floors-long)
-
-mul-fractions : tie.Need-overflow-mul-fractions invariant-loop decreases-loop
-mul-fractions c = omega arith
-
-element-write-fractions : tie.Need-element-write-fractions invariant-loop decreases-loop
-element-write-fractions c = omega arith
-
-add-unit : tie.Need-overflow-add-unit invariant-loop decreases-loop
-add-unit c = omega arith
-
-loop-less : tie.Need-loop-smaller invariant-loop decreases-loop
-loop-less c = omega arith
-
-loop-again : tie.Need-loop-preserved invariant-loop decreases-loop
-loop-again c =
-    let q = c.before.before.before in
+pub loop-unit-preserved : goal.loop-unit-preserved
+loop-unit-preserved c =
+    let q = c.before.before.before.before.before in
     let s = q.before.before.before.before in
-    let l = q.before.before.before.loop in
+    let l = q.loop-unit in
     let sum = plus-held (net-held s.requires l.unit) (correction-held s.requires l.unit) (omega arith) in
     let done = rw (read-u q.before, read-w q.before) at l.invariant.1 in
     (omega arith, rw (read-u q.before, read-w q.before, quotient_is q, sum.reads) (next-done s.requires l.unit (omega arith) done))
 
-same_length : tie.Need-same-length invariant-loop decreases-loop
-same_length c = c.before.loop.invariant.1.floors-long ∙ sym c.before.before.requires.floors-long
+pub shape_of-floors : goal.shape_of-floors
+shape_of-floors c = c.loop-unit.invariant.1.floors-long ∙ sym c.requires.floors-long
 
-returns : tie.Need-returns invariant-loop decreases-loop
+pub returns : goal.returns
 returns c =
     let s = c.before.before in
-    let l = c.before.loop in
+    let l = c.loop-unit in
     all_done s.requires l.unit (omega arith) (rw (to_z-of_z w64 _ s.ranges.u, to_z-of_z w64 _ s.ranges.w) at l.invariant.1)
-
-pub share-down-spec : {M : Type 1} → statement M
-share-down-spec =
-    tie.close
-    (tie.spec
-    invariant-loop
-    decreases-loop
-    loop-holds
-    mul-share-quotient
-    element-copy-out-share-quotient
-    share-quotient-requires
-    mul-floor
-    element-copy-out-floor
-    add-floor
-    mul-floor-2
-    slice-set-from-floor
-    mul-fractions
-    element-write-fractions
-    add-unit
-    loop-less
-    loop-again
-    same_length
-    returns)

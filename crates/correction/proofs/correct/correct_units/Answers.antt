@@ -27,8 +27,7 @@ use Rattle.correction.specs.Volumes.{volumes_of, with_volumes}
 use Rattle.correction.proofs.Pairs.{pairs-nets, pairs-weighted}
 use Rattle.correction.proofs.Sizes.{size-sum, size-entry}
 use Rattle.correction.proofs.Outcome.{way-below, way-exceeds, way-accepted}
-use Rattle.correction.proofs.correct.correct_units.Statement.{statement}
-use Rattle.correction.proofs.correct.correct_units.Tie as tie
+use Rattle.correction.proofs.correct.correct_units.Goals as goal
 
 -- what each step needs, from the bounds on the arguments
 module _ {take_wh : ℤ} {tolerance : ℕ} {nets weighted slice : List ℤ} (given : CorrectArguments take_wh tolerance nets weighted slice) where
@@ -84,130 +83,97 @@ module _ {take_wh : ℤ} {tolerance : ℕ} {nets weighted slice : List ℤ} (giv
       }
 
 -- the Take is read back from its bits as the same number
-take-read : (c : tie.Start) → to_z w64 (of_z w64 c.args.take-wh) ≡ c.args.take-wh
+take-read : (c : goal.Start) → to_z w64 (of_z w64 c.args.take-wh) ≡ c.args.take-wh
 take-read c = to_z-of_z w64 c.args.take-wh c.ranges.take-wh
 
-total-requires : tie.Need-total-requires
-total-requires c κs = nets-arguments c.before.requires
-
 -- U, as the code subtracts
-abbrev subtracted : tie.After-total → ℤ
-subtracted c = to_z w64 (of_z w64 c.before.before.args.take-wh) -ℤ to_z w64 (of_z w64 c.total.result)
+abbrev subtracted : goal.After-total → ℤ
+subtracted c = to_z w64 (of_z w64 c.args.take-wh) -ℤ to_z w64 (of_z w64 c.total.result)
 
-difference : (c : tie.After-total) → subtracted c ≡ u c.before.before.requires
+difference : (c : goal.After-total) → subtracted c ≡ u c.requires
 difference c =
-    ap₂ ◌-ℤ◌ (take-read c.before.before) (to_z-of_z w64 c.total.result (record { sfits = c.total.type-inv }) ∙ c.total.ensures)
-    ∙ unallocated-is c.before.before.requires
+    ap₂ ◌-ℤ◌ (take-read c.before.before) (to_z-of_z w64 c.total.result (record { sfits = c.total.type_inv }) ∙ c.total.ensures)
+    ∙ unallocated-is c.requires
 
-difference-fits : (c : tie.After-total) → SFits w64 (subtracted c)
-difference-fits c = rw (difference c) (fit _ 1400000000000 (u-bound c.before.before.requires) (lit< tt))
-
-sub-u : tie.Need-overflow-sub-u
-sub-u c = difference-fits c
-
-total-requires-2 : tie.Need-total-requires-2
-total-requires-2 c κs = weighted-arguments c.before.before.before.requires
+difference-fits : (c : goal.After-total) → SFits w64 (subtracted c)
+difference-fits c = rw (difference c) (fit _ 1400000000000 (u-bound c.requires) (lit< tt))
 
 -- where U and W are held
-abbrev start : tie.After-total2 → tie.Start
+abbrev start : goal.After-total-w → goal.Start
 start c = c.before.before.before.before
 
-abbrev u-bits : tie.After-total2 → ℕ
+abbrev u-bits : goal.After-total-w → ℕ
 u-bits c = of_z w64 (subtracted c.before.before)
 
-abbrev w-bits : tie.After-total2 → ℕ
-w-bits c = of_z w64 c.total2.result
+abbrev w-bits : goal.After-total-w → ℕ
+w-bits c = of_z w64 c.total-w.result
 
-u-held : (c : tie.After-total2) → to_z w64 (u-bits c) ≡ u (start c).requires
+u-held : (c : goal.After-total-w) → to_z w64 (u-bits c) ≡ u (start c).requires
 u-held c = to_z-of_z w64 _ (difference-fits c.before.before) ∙ difference c.before.before
 
-w_held : (c : tie.After-total2) → to_z w64 (w-bits c) ≡ w (start c).requires
-w_held c = to_z-of_z w64 c.total2.result (record { sfits = c.total2.type-inv }) ∙ c.total2.ensures ∙ weighted-is (start c).requires
+w_held : (c : goal.After-total-w) → to_z w64 (w-bits c) ≡ w (start c).requires
+w_held c = to_z-of_z w64 c.total-w.result (record { sfits = c.total-w.type_inv }) ∙ c.total-w.ensures ∙ weighted-is (start c).requires
 
-refused-requires : tie.Need-refused-requires
-refused-requires c κs = search rules
-
-returns : tie.Need-returns
-returns c =
-    let t = c.before.before in
-    rw c.refused.ensures (way-below _ _ _ _ (subst (λ (z : ℤ). lt_z z (pos 1) ≡ true) (w_held t) c.before.if1.true))
-
-above : (c : tie.Else1) → lt_z (w (start c.before).requires) (pos 1) ≡ false
-above c = subst (λ (z : ℤ). lt_z z (pos 1) ≡ false) (w_held c.before) c.if1.false
-
-exceeds-tolerance-requires : tie.Need-exceeds-tolerance-requires
-exceeds-tolerance-requires c κs =
-    let t = c.before in
-    rw (u-held t, w_held t) (tolerance-arguments (start t).requires)
+above : (c : goal.Else-w-lt1) → lt_z (w (start c.before).requires) (pos 1) ≡ false
+above c = subst (λ (z : ℤ). lt_z z (pos 1) ≡ false) (w_held c.before) c.if-w-lt1.false
 
 -- what the tolerance test gave
-tested : (c : tie.After-exceeds-tolerance) → let s = start c.before.before in c.exceeds-tolerance.result ≡ exceeds_tolerance s.args.tolerance (u s.pre) (w s.pre)
+tested : (c : goal.After-exceeds_tolerance) → let s = start c.before.before in c.exceeds_tolerance.result ≡ exceeds_tolerance s.args.tolerance (u s.requires) (w s.requires)
 tested c =
     let t = c.before.before in
-    c.exceeds-tolerance.ensures ∙ ap₂ (exceeds_tolerance (start t).args.tolerance) (u-held t) (w_held t)
-
-refused-requires-2 : tie.Need-refused-requires-2
-refused-requires-2 c κs = search rules
-
-returns-2 : tie.Need-returns-2
-returns-2 c =
-    let x = c.before.before in
-    rw c.refused2.ensures (way-exceeds _ _ _ _ (above x.before) (sym (tested x) ∙ c.before.if2.true))
-
-sub-apportion : tie.Need-overflow-sub-apportion
-sub-apportion c = search rules
-
-part-apportion-start : tie.Need-slice-bounds-apportion-start
-part-apportion-start c = search rules
+    c.exceeds_tolerance.ensures ∙ ap₂ (exceeds_tolerance (start t).args.tolerance) (u-held t) (w_held t)
 
 -- where the tolerance is kept
-abbrev kept : tie.Else2 → tie.After-total2
+abbrev kept : goal.Else-exceeds_tolerance → goal.After-total-w
 kept c = c.before.before.before
 
-part-apportion-end : tie.Need-slice-bounds-apportion-end
-part-apportion-end c = omega (arith, (start (kept c)).requires.volumes-long)
-
-within : (c : tie.Else2) → let s = start (kept c) in exceeds_tolerance s.args.tolerance (u s.pre) (w s.pre) ≡ false
-within c = sym (tested c.before) ∙ c.if2.false
-
-apportion-requires : tie.Need-apportion-requires
-apportion-requires c κs =
-    let e = c.before in
-    let t = kept e in
-    rw (u-held t, w_held t, take-read (start t)) (apportion-arguments (start t).pre (above e.before.before) (within e))
-
-same_length : tie.Need-same-length
-same_length c = search rules
+within : (c : goal.Else-exceeds_tolerance) → let s = start (kept c) in exceeds_tolerance s.args.tolerance (u s.requires) (w s.requires) ≡ false
+within c = sym (tested c.before) ∙ c.if-exceeds_tolerance.false
 
 -- the answer as the code makes it
 abbrev answer_from : ℤ → ℤ → Corrected
 answer_from x y = record { number = 0; unallocated = x; weighted = y }
 
-returns-3 : tie.Need-returns-3
+pub total-requires : goal.total-requires
+total-requires c = nets-arguments c.requires
+
+pub overflow_sub-u : goal.overflow_sub-u
+overflow_sub-u c = difference-fits c
+
+pub total-w-requires : goal.total-w-requires
+total-w-requires c = weighted-arguments c.requires
+
+pub returns-then-w-lt1 : goal.returns-then-w-lt1
+returns-then-w-lt1 c =
+    let t = c.before.before in
+    rw c.refused.ensures (way-below _ _ _ _ (subst (λ (z : ℤ). lt_z z (pos 1) ≡ true) (w_held t) c.if-w-lt1.true))
+
+pub exceeds_tolerance-requires : goal.exceeds_tolerance-requires
+exceeds_tolerance-requires c =
+    let t = c.before in
+    rw (u-held t, w_held t) (tolerance-arguments (start t).requires)
+
+pub returns-then-exceeds_tolerance : goal.returns-then-exceeds_tolerance
+returns-then-exceeds_tolerance c =
+    let x = c.before.before in
+    rw c.refused-then-exceeds_tolerance.ensures (way-exceeds _ _ _ _ (above x.before) (sym (tested x) ∙ c.if-exceeds_tolerance.true))
+
+pub apportion-requires : goal.apportion-requires
+apportion-requires c =
+    let e = c.before in
+    let t = kept e in
+    rw (u-held t, w_held t, take-read (start t)) (apportion-arguments (start t).requires (above e.before.before) (within e))
+
+pub returns : goal.returns
 unfolding with_volumes
-returns-3 c =
+returns c =
     let e = c.before.before.before in
     let t = kept e in
     let s = start t in
     way-accepted _ _ _ _ (above e.before.before) (within e) (ap₂ answer_from (u-held t) (w_held t))
     (ap (λ (v : List ℤ). v ++ drop 32 s.args.volumes.now)
-    (c.before.apportion.ensures ∙ ap (λ (z : ℤ). volumes_of z (pairs_of s.args.nets.now s.args.weighted.now)) (take-read s)))
+    (c.apportion.ensures ∙ ap (λ (z : ℤ). volumes_of z (pairs_of s.args.nets.now s.args.weighted.now)) (take-read s)))
 
-pub correct-units-spec : {M : Type 1} → statement M
-correct-units-spec =
-    tie.close
-    (tie.spec
-    total-requires
-    sub-u
-    total-requires-2
-    refused-requires
-    returns
-    exceeds-tolerance-requires
-    refused-requires-2
-    returns-2
-    sub-apportion
-    part-apportion-start
-    part-apportion-end
-    apportion-requires
-    same_length
-    returns-3)
+-- DROPPED slice-bounds-apportion-end
+-- part-apportion-end : tie.Need-slice-bounds-apportion-end
+-- part-apportion-end c = omega (arith, (start (kept c)).requires.volumes-long)

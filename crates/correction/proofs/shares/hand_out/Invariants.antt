@@ -1,0 +1,32 @@
+-- `hand_out` meets its contract. The units' loop keeps `HandedOut`. The inner loop's invariant: the units that come before are those counted Assumes nothing.
+-- and those among the units to come.
+use Prim.Native.Nat.{ℕ, suc, ◌+◌, ◌-◌, ◌≤◌, ◌<◌}
+use mathlib.Core.Path.{◌≡◌, refl, sym, ap, ◌∙◌}
+use mathlib.Core.Bool.{true, false}
+use mathlib.Core.List.{List}
+use mathlib.Core.Logic.{⊎_elim}
+use native.Mathlib.Omega.{arith}
+use native.Mathlib.Numerals.{add-one}
+use lib.IntN.{ℤ, pos}
+use lib.ListN.{length, get_or, drop, drop_of_length-le}
+use lib.Seq.{drop-cons}
+use mir.Syntax.{w64}
+use mir.Val.{of_z}
+use Rattle.integers.proofs.Fit.{Held, held, held-literal, plus-fits, plus-held}
+use Rattle.correction.specs.Volumes.{comes_before, count_before}
+use Rattle.correction.proofs.CountWhere.{bit}
+use Rattle.correction.proofs.Keys.{key-before, key-after}
+use Rattle.correction.proofs.HandedOut.{HandedOut, hand-none, hand-all, hand-last, hand-one, hand-no, some_left, entry-is}
+use Rattle.correction.proofs.shares.hand_out.Given as goal
+
+abbrev pub invariant-loop-other : goal.invariant-loop-other
+invariant-loop-other l = (l.other ≤ 32) × ((l.before ≤ l.other) × CountedTo l.fractions l.unit l.before l.other)
+
+abbrev pub decreases-loop-other : goal.decreases-loop-other
+decreases-loop-other l = 32 - l.other
+
+abbrev pub invariant-units : goal.invariant-units
+invariant-units l = (l.unit ≤ 32) × HandedOut l.lack l.fractions l.initial.volumes l.volumes l.left l.unit
+
+abbrev pub decreases-units : goal.decreases-units
+decreases-units l = 32 - l.unit
