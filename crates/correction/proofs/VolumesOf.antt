@@ -35,6 +35,7 @@ some-unit (x ∷ sums) p = omega arith
 -- each fraction is below W
 fractions-below : (u w : ℤ) (j : ℕ) (sums : List UnitSums) → 0 < nat_abs w → (i f : ℕ) → At i f j (map (share_fraction u w) sums) → f < nat_abs w
 unfolding share_fraction
+fractions-below u w j [] p i f x'' = elim x'' [ ]
 fractions-below u w j (x ∷ sums) p i f here = fraction-below (share_numerator u w x) (nat_abs w) p
 fractions-below u w j (x ∷ sums) p i f (later a) = fractions-below u w (suc j) sums p i f a
 

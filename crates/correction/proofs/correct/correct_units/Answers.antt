@@ -82,53 +82,16 @@ module _ {take_wh : ℤ} {tolerance : ℕ} {nets weighted slice : List ℤ} (giv
         weighted-bound = λ k. omega (arith, size-entry weighted k, given.weighted-bound);
       }
 
--- the Take is read back from its bits as the same number
-take-read : (c : goal.Start) → to_z w64 (of_z w64 c.args.take-wh) ≡ c.args.take-wh
-take-read c = to_z-of_z w64 c.args.take-wh c.ranges.take-wh
-
 -- U, as the code subtracts
-abbrev subtracted : goal.After-total → ℤ
-subtracted c = to_z w64 (of_z w64 c.args.take-wh) -ℤ to_z w64 (of_z w64 c.total.result)
+module _ {take_wh : ℤ} {tolerance : ℕ} {nets weighted slice : List ℤ} (given : CorrectArguments take_wh tolerance nets weighted slice) {all : ℤ} (is-sum : all ≡ sum nets) (take-read : to_z w64 (of_z w64 take_wh) ≡ take_wh) (all-read : to_z w64 (of_z w64 all) ≡ all) where
+  difference : to_z w64 (of_z w64 take_wh) -ℤ to_z w64 (of_z w64 all) ≡ u given
+  difference = ap₂ ◌-ℤ◌ take-read (all-read ∙ is-sum) ∙ unallocated-is given
 
-difference : (c : goal.After-total) → subtracted c ≡ u c.requires
-difference c =
-    ap₂ ◌-ℤ◌ (take-read c.before.before) (to_z-of_z w64 c.total.result (record { sfits = c.total.type_inv }) ∙ c.total.ensures)
-    ∙ unallocated-is c.requires
+  difference-fits : SFits w64 (to_z w64 (of_z w64 take_wh) -ℤ to_z w64 (of_z w64 all))
+  difference-fits = rw difference (fit _ 1400000000000 (u-bound given) (lit< tt))
 
-difference-fits : (c : goal.After-total) → SFits w64 (subtracted c)
-difference-fits c = rw (difference c) (fit _ 1400000000000 (u-bound c.requires) (lit< tt))
-
--- where U and W are held
-abbrev start : goal.After-total-w → goal.Start
-start c = c.before.before.before.before
-
-abbrev u-bits : goal.After-total-w → ℕ
-u-bits c = of_z w64 (subtracted c.before.before)
-
-abbrev w-bits : goal.After-total-w → ℕ
-w-bits c = of_z w64 c.total-w.result
-
-u-held : (c : goal.After-total-w) → to_z w64 (u-bits c) ≡ u (start c).requires
-u-held c = to_z-of_z w64 _ (difference-fits c.before.before) ∙ difference c.before.before
-
-w_held : (c : goal.After-total-w) → to_z w64 (w-bits c) ≡ w (start c).requires
-w_held c = to_z-of_z w64 c.total-w.result (record { sfits = c.total-w.type_inv }) ∙ c.total-w.ensures ∙ weighted-is (start c).requires
-
-above : (c : goal.Else-w-lt1) → lt_z (w (start c.before).requires) (pos 1) ≡ false
-above c = subst (λ (z : ℤ). lt_z z (pos 1) ≡ false) (w_held c.before) c.if-w-lt1.false
-
--- what the tolerance test gave
-tested : (c : goal.After-exceeds_tolerance) → let s = start c.before.before in c.exceeds_tolerance.result ≡ exceeds_tolerance s.args.tolerance (u s.requires) (w s.requires)
-tested c =
-    let t = c.before.before in
-    c.exceeds_tolerance.ensures ∙ ap₂ (exceeds_tolerance (start t).args.tolerance) (u-held t) (w_held t)
-
--- where the tolerance is kept
-abbrev kept : goal.Else-exceeds_tolerance → goal.After-total-w
-kept c = c.before.before.before
-
-within : (c : goal.Else-exceeds_tolerance) → let s = start (kept c) in exceeds_tolerance s.args.tolerance (u s.requires) (w s.requires) ≡ false
-within c = sym (tested c.before) ∙ c.if-exceeds_tolerance.false
+  u-held : to_z w64 (of_z w64 (to_z w64 (of_z w64 take_wh) -ℤ to_z w64 (of_z w64 all))) ≡ u given
+  u-held = to_z-of_z w64 _ difference-fits ∙ difference
 
 -- the answer as the code makes it
 abbrev answer_from : ℤ → ℤ → Corrected
@@ -138,42 +101,36 @@ pub total-requires : goal.total-requires
 total-requires c = nets-arguments c.requires
 
 pub overflow_sub-u : goal.overflow_sub-u
-overflow_sub-u c = difference-fits c
+overflow_sub-u c = difference-fits c.requires c.total.ensures (to_z-of_z w64 _ c.ranges.take_wh) (to_z-of_z w64 _ (record { sfits = c.total.type_inv }))
 
 pub total-w-requires : goal.total-w-requires
 total-w-requires c = weighted-arguments c.requires
 
 pub returns-then-w-lt1 : goal.returns-then-w-lt1
 returns-then-w-lt1 c =
-    let t = c.before.before in
-    rw c.refused.ensures (way-below _ _ _ _ (subst (λ (z : ℤ). lt_z z (pos 1) ≡ true) (w_held t) c.if-w-lt1.true))
+    let w-held = (to_z-of_z w64 _ (record { sfits = c.total-w.type_inv }) ∙ c.total-w.ensures ∙ weighted-is c.requires) in
+    rw c.refused.ensures (way-below _ _ _ _ (subst (λ (z : ℤ). lt_z z (pos 1) ≡ true) w-held c.if-w-lt1.true))
 
 pub exceeds_tolerance-requires : goal.exceeds_tolerance-requires
-exceeds_tolerance-requires c =
-    let t = c.before in
-    rw (u-held t, w_held t) (tolerance-arguments (start t).requires)
+exceeds_tolerance-requires c = rw (u-held c.requires c.total.ensures (to_z-of_z w64 _ c.ranges.take_wh) (to_z-of_z w64 _ (record { sfits = c.total.type_inv })), (to_z-of_z w64 _ (record { sfits = c.total-w.type_inv }) ∙ c.total-w.ensures ∙ weighted-is c.requires)) (tolerance-arguments c.requires)
 
 pub returns-then-exceeds_tolerance : goal.returns-then-exceeds_tolerance
 returns-then-exceeds_tolerance c =
-    let x = c.before.before in
-    rw c.refused-then-exceeds_tolerance.ensures (way-exceeds _ _ _ _ (above x.before) (sym (tested x) ∙ c.if-exceeds_tolerance.true))
+    let tested = (c.exceeds_tolerance.ensures ∙ ap₂ (exceeds_tolerance c.args.tolerance) (u-held c.requires c.total.ensures (to_z-of_z w64 _ c.ranges.take_wh) (to_z-of_z w64 _ (record { sfits = c.total.type_inv }))) (to_z-of_z w64 _ (record { sfits = c.total-w.type_inv }) ∙ c.total-w.ensures ∙ weighted-is c.requires)) in
+    rw c.refused-then-exceeds_tolerance.ensures (way-exceeds _ _ _ _ (subst (λ (z : ℤ). lt_z z (pos 1) ≡ false) (to_z-of_z w64 _ (record { sfits = c.total-w.type_inv }) ∙ c.total-w.ensures ∙ weighted-is c.requires) c.if-w-lt1.false) (sym tested ∙ c.if-exceeds_tolerance.true))
+
+pub slice_bounds-apportion-end : goal.slice_bounds-apportion-end
+slice_bounds-apportion-end c = omega (arith, c.requires.volumes-long)
 
 pub apportion-requires : goal.apportion-requires
 apportion-requires c =
-    let e = c.before in
-    let t = kept e in
-    rw (u-held t, w_held t, take-read (start t)) (apportion-arguments (start t).requires (above e.before.before) (within e))
+    let tested = (c.exceeds_tolerance.ensures ∙ ap₂ (exceeds_tolerance c.args.tolerance) (u-held c.requires c.total.ensures (to_z-of_z w64 _ c.ranges.take_wh) (to_z-of_z w64 _ (record { sfits = c.total.type_inv }))) (to_z-of_z w64 _ (record { sfits = c.total-w.type_inv }) ∙ c.total-w.ensures ∙ weighted-is c.requires)) in
+    rw (u-held c.requires c.total.ensures (to_z-of_z w64 _ c.ranges.take_wh) (to_z-of_z w64 _ (record { sfits = c.total.type_inv })), (to_z-of_z w64 _ (record { sfits = c.total-w.type_inv }) ∙ c.total-w.ensures ∙ weighted-is c.requires), (to_z-of_z w64 _ c.ranges.take_wh)) (apportion-arguments c.requires (subst (λ (z : ℤ). lt_z z (pos 1) ≡ false) (to_z-of_z w64 _ (record { sfits = c.total-w.type_inv }) ∙ c.total-w.ensures ∙ weighted-is c.requires) c.if-w-lt1.false) (sym tested ∙ c.if-exceeds_tolerance.false))
 
 pub returns : goal.returns
 unfolding with_volumes
 returns c =
-    let e = c.before.before.before in
-    let t = kept e in
-    let s = start t in
-    way-accepted _ _ _ _ (above e.before.before) (within e) (ap₂ answer_from (u-held t) (w_held t))
-    (ap (λ (v : List ℤ). v ++ drop 32 s.args.volumes.now)
-    (c.apportion.ensures ∙ ap (λ (z : ℤ). volumes_of z (pairs_of s.args.nets.now s.args.weighted.now)) (take-read s)))
-
--- DROPPED slice-bounds-apportion-end
--- part-apportion-end : tie.Need-slice-bounds-apportion-end
--- part-apportion-end c = omega (arith, (start (kept c)).requires.volumes-long)
+    let tested = (c.exceeds_tolerance.ensures ∙ ap₂ (exceeds_tolerance c.args.tolerance) (u-held c.requires c.total.ensures (to_z-of_z w64 _ c.ranges.take_wh) (to_z-of_z w64 _ (record { sfits = c.total.type_inv }))) (to_z-of_z w64 _ (record { sfits = c.total-w.type_inv }) ∙ c.total-w.ensures ∙ weighted-is c.requires)) in
+    way-accepted _ _ _ _ (subst (λ (z : ℤ). lt_z z (pos 1) ≡ false) (to_z-of_z w64 _ (record { sfits = c.total-w.type_inv }) ∙ c.total-w.ensures ∙ weighted-is c.requires) c.if-w-lt1.false) (sym tested ∙ c.if-exceeds_tolerance.false) (ap₂ answer_from (u-held c.requires c.total.ensures (to_z-of_z w64 _ c.ranges.take_wh) (to_z-of_z w64 _ (record { sfits = c.total.type_inv }))) (to_z-of_z w64 _ (record { sfits = c.total-w.type_inv }) ∙ c.total-w.ensures ∙ weighted-is c.requires))
+    (ap (λ (v : List ℤ). v ++ drop 32 c.args.volumes.now)
+    (c.apportion.ensures ∙ ap (λ (z : ℤ). volumes_of z (pairs_of c.args.nets.now c.args.weighted.now)) (to_z-of_z w64 _ c.ranges.take_wh)))

@@ -19,6 +19,10 @@ use Rattle.correction.proofs.Keys.{key-before, key-after}
 use Rattle.correction.proofs.HandedOut.{HandedOut, hand-none, hand-all, hand-last, hand-one, hand-no, some_left, entry-is}
 use Rattle.correction.proofs.shares.hand_out.Given as goal
 
+-- how many come before unit i: n of the units before unit j, and those of the others that do
+pub record CountedTo (fractions : List ℕ) (i n j : ℕ) : Type 0 where
+  pub counted : count_before i (get_or fractions i 0) 0 fractions ≡ n + count_before i (get_or fractions i 0) j (drop j fractions)
+
 abbrev pub invariant-loop-other : goal.invariant-loop-other
 invariant-loop-other l = (l.other ≤ 32) × ((l.before ≤ l.other) × CountedTo l.fractions l.unit l.before l.other)
 

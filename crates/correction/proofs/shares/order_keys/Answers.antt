@@ -9,12 +9,8 @@ use lib.Seq.{get_or-set_same, get_or-set_other}
 use Rattle.words.proofs.Tests.{by-test}
 use Rattle.cells.specs.Cells.{units}
 use Rattle.correction.specs.Helpers.{order_key}
+use Rattle.correction.proofs.shares.order_keys.Invariants.{Keyed}
 use Rattle.correction.proofs.shares.order_keys.Goals as goal
-
--- the first i units have their keys
-record Keyed (fractions keys : List ℕ) (i : ℕ) : Type 0 where
-  long : length keys ≡ units
-  done : (k : ℕ) → k < i → get_or keys k 0 ≡ order_key k (get_or fractions k 0)
 
 next : {fractions keys : List ℕ} {i x : ℕ} → Keyed fractions keys i → i < 32 → x ≡ order_key i (get_or fractions i 0) → Keyed fractions (set keys i x) (i + 1)
 next {fractions} {keys} {i} {x} p h e =

@@ -12,6 +12,11 @@ use Rattle.cells.specs.Cells.{units}
 use Rattle.correction.specs.Helpers.{order_key}
 use Rattle.correction.proofs.shares.order_keys.Given as goal
 
+-- the first i units have their keys
+pub record Keyed (fractions keys : List ℕ) (i : ℕ) : Type 0 where
+  pub long : length keys ≡ units
+  pub done : (k : ℕ) → k < i → get_or keys k 0 ≡ order_key k (get_or fractions k 0)
+
 abbrev pub invariant-loop-unit : goal.invariant-loop-unit
 invariant-loop-unit l = (l.unit ≤ 32) × Keyed l.fractions l.keys l.unit
 

@@ -5,7 +5,7 @@ use native.Mathlib.Omega.{arith}
 use lib.IntN.{ℤ, pos, nat_abs, ◌+ℤ◌, ◌*ℤ◌}
 use lib.ListN.{length, get_or, set, length-set}
 use mir.Syntax.{w64}
-use mir.Val.{to_z, of_z}
+use mir.Val.{to_z, of_z, SFits}
 use mir.ValLaws.{to_z-of_z}
 use Rattle.integers.specs.Quotient.{floor_of, fraction_of, quotient_of}
 use Rattle.integers.specs.Helpers.{ShareArguments}
@@ -19,13 +19,8 @@ use Rattle.correction.specs.Helpers.{ShareDownArguments, SharedDown}
 use Rattle.correction.proofs.Apportioned.{share-split, fraction-split}
 use Rattle.correction.proofs.Filled.{Filled, filled_none, filled_next, filled-all}
 use Rattle.correction.proofs.Pairs.{no_sums, pairs-at, pairs-length}
+use Rattle.correction.proofs.shares.share_down.Invariants.{Done}
 use Rattle.correction.proofs.shares.share_down.Goals as goal
-
--- the floors and fractions of the first i units are filled in
-record Done (u w : ℤ) (nets weighted floors : List ℤ) (fractions : List ℕ) (i : ℕ) : Type 0 where
-  floors-long : length floors ≡ units
-  floors-done : Filled (share_floor u w) (pairs_of nets weighted) floors i
-  fractions-done : Filled (share_fraction u w) (pairs_of nets weighted) fractions i
 
 module _ {u w : ℤ} {nets weighted floors₀ : List ℤ} {fractions₀ : List ℕ} (args : ShareDownArguments u w nets weighted floors₀ fractions₀) where
   as_many : length nets ≡ length weighted
@@ -97,52 +92,41 @@ module _ {u w : ℤ} {nets weighted floors₀ : List ℤ} {fractions₀ : List �
           fractions-done = rw (← fraction-is) (filled_next _ _ _ i no_sums d.fractions-done (omega (arith, sums-long)));
         }
 
-module _ (c : goal.After-share_quotient-arg-1) where
-  read-u : to_z w64 (of_z w64 c.args.u) ≡ c.args.u
-  read-u = to_z-of_z w64 _ c.ranges.u
-
-  read-w : to_z w64 (of_z w64 c.args.w) ≡ c.args.w
-  read-w = to_z-of_z w64 _ c.ranges.w
-
-  abbrev a : ℤ
-  a = get_or c.args.weighted.now c.loop-unit.unit (pos 0)
-
-  read_a : to_z w64 (of_z w64 a) ≡ a
-  read_a = to_z-of_z w64 _ (fit a 1400000000000000 (c.requires.weighted-bound c.loop-unit.unit) (omega arith))
-
-module _ (c : goal.After-share_quotient-q) where
-  quotient_is : c.share_quotient-q.result ≡ quotient_of (c.args.u *ℤ a c.before) (nat_abs c.args.w)
-  quotient_is = rw (read-u c.before, read_a c.before, read-w c.before) at c.share_quotient-q.ensures
+-- the arguments of the quotient as the code reads them, and what it gives
+module _ {u w : ℤ} {nets weighted floors₀ : List ℤ} {fractions₀ : List ℕ} (args : ShareDownArguments u w nets weighted floors₀ fractions₀) (i : ℕ) where
+  weighted-fits : SFits w64 (get_or weighted i (pos 0))
+  weighted-fits = fit _ 1400000000000000 (args.weighted-bound i) (omega arith)
 
 pub loop-unit-init : goal.loop-unit-init
 loop-unit-init c = (omega arith, rw (to_z-of_z w64 _ c.ranges.u, to_z-of_z w64 _ c.ranges.w) (none_done c.requires))
 
 pub share_quotient-q-requires : goal.share_quotient-q-requires
-share_quotient-q-requires c = rw (read-u c, read_a c, read-w c) (share-arguments c.requires c.loop-unit.unit)
+share_quotient-q-requires c =
+    let i = c.loop-unit.unit in
+    rw (to_z-of_z w64 _ c.ranges.u, to_z-of_z w64 _ (weighted-fits c.requires i), to_z-of_z w64 _ c.ranges.w) (share-arguments c.requires i)
 
 pub overflow_add-floor : goal.overflow_add-floor
 overflow_add-floor c =
-    let s = c.before.before.before.before.before.before.before in
     let i = c.loop-unit.unit in
-    rw (quotient_is c.before.before.before.before) (plus-fits (net-held s.requires i) (correction-held s.requires i) (omega arith))
+    let q = rw (to_z-of_z w64 _ c.ranges.u, to_z-of_z w64 _ (weighted-fits c.requires i), to_z-of_z w64 _ c.ranges.w) at c.share_quotient-q.ensures in
+    rw q (plus-fits (net-held c.requires i) (correction-held c.requires i) (omega arith))
 
 pub bounds-floors-unit : goal.bounds-floors-unit
 bounds-floors-unit c = omega (arith, c.loop-unit.invariant.1.floors-long)
 
 pub loop-unit-preserved : goal.loop-unit-preserved
 loop-unit-preserved c =
-    let q = c.before.before.before.before.before in
-    let s = q.before.before.before.before in
-    let l = q.loop-unit in
-    let sum = plus-held (net-held s.requires l.unit) (correction-held s.requires l.unit) (omega arith) in
-    let done = rw (read-u q.before, read-w q.before) at l.invariant.1 in
-    (omega arith, rw (read-u q.before, read-w q.before, quotient_is q, sum.reads) (next-done s.requires l.unit (omega arith) done))
+    let i = c.loop-unit.unit in
+    let read-u = to_z-of_z w64 _ c.ranges.u in
+    let read-w = to_z-of_z w64 _ c.ranges.w in
+    let q = rw (read-u, to_z-of_z w64 _ (weighted-fits c.requires i), read-w) at c.share_quotient-q.ensures in
+    let sum = plus-held (net-held c.requires i) (correction-held c.requires i) (omega arith) in
+    let done = rw (read-u, read-w) at c.loop-unit.invariant.1 in
+    (omega arith, rw (read-u, read-w, q, sum.reads) (next-done c.requires i (omega arith) done))
 
 pub shape_of-floors : goal.shape_of-floors
 shape_of-floors c = c.loop-unit.invariant.1.floors-long ∙ sym c.requires.floors-long
 
 pub returns : goal.returns
 returns c =
-    let s = c.before.before in
-    let l = c.loop-unit in
-    all_done s.requires l.unit (omega arith) (rw (to_z-of_z w64 _ s.ranges.u, to_z-of_z w64 _ s.ranges.w) at l.invariant.1)
+    all_done c.requires c.loop-unit.unit (omega arith) (rw (to_z-of_z w64 _ c.ranges.u, to_z-of_z w64 _ c.ranges.w) at c.loop-unit.invariant.1)

@@ -22,6 +22,12 @@ use Rattle.correction.proofs.Filled.{Filled, filled_none, filled_next, filled-al
 use Rattle.correction.proofs.Pairs.{no_sums, pairs-at, pairs-length}
 use Rattle.correction.proofs.shares.share_down.Given as goal
 
+-- the floors and fractions of the first i units are filled in
+pub record Done (u w : ℤ) (nets weighted floors : List ℤ) (fractions : List ℕ) (i : ℕ) : Type 0 where
+  pub floors-long : length floors ≡ units
+  pub floors-done : Filled (share_floor u w) (pairs_of nets weighted) floors i
+  pub fractions-done : Filled (share_fraction u w) (pairs_of nets weighted) fractions i
+
 abbrev pub invariant-loop-unit : goal.invariant-loop-unit
 invariant-loop-unit l = (l.unit ≤ 32) × Done l.u l.w l.nets l.weighted l.floors l.fractions l.unit
 
