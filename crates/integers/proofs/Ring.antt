@@ -1,5 +1,5 @@
 -- Sums, differences and products of ℤ that `lib.IntN` does not have. What is linear, `omega (linear, ..)` proves where it is wanted.
-use Prim.Native.Nat.{◌-◌, ◌*◌}
+use Prim.Native.Nat.{◌*◌}
 use mathlib.Core.Path.{◌≡◌, sym, ap, ◌∙◌}
 use lib.IntN.{ℤ, neg_ℤ, ◌+ℤ◌, ◌-ℤ◌, ◌*ℤ◌, *ℤ_comm}
 use Rattle.integers.proofs.Linear.{linear, above, below, opposite, plus, minus, times}

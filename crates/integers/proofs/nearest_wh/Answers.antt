@@ -1,6 +1,5 @@
 -- `nearest_wh` meets its contract, by the remainder: from half a Wh on it adds one Wh of its sign, whose thousandths go from what is dropped. Assumes nothing.
 use Prim.Native.Nat.{ℕ, suc, ◌+◌, ◌*◌, ◌/◌, ◌%◌, ◌^◌, ◌≤◌, ◌<◌}
-use mathlib.Core.Logic.{⊎_elim}
 use mathlib.Core.Path.{◌≡◌, ap₂, ◌∙◌}
 use native.Mathlib.Omega.{arith}
 use native.Mathlib.Nat.{le_refl}
@@ -18,6 +17,7 @@ use Rattle.integers.proofs.Size.{times-bound}
 use Rattle.integers.proofs.Fit.{fit, Held, held, plus-fits, plus-held, minus-fits, minus-held}
 use Rattle.integers.proofs.Cut.{cut-whole, cut_left, cut-size, cut_fits}
 use Rattle.integers.proofs.nearest_wh.Goals as goal
+use Rattle.integers.proofs.nearest_wh.Goals.{then-rest-ltminus499, else-rest-ltminus499+then-rest-gt499, else-rest-ltminus499+else-rest-gt499}
 
 abbrev whole : ℤ → ℤ
 whole t = quot_z t (pos 1000)
@@ -63,18 +63,15 @@ rest-size : (t : ℤ) → nat_abs (rest t) ≤ 999
 rest-size t = omega (arith, cut_left t 1000 (lit< tt))
 
 -- what the code holds of them
-module _ (c : goal.Start) where
-  abbrev t : ℤ
-  t = c.args.thousandths
-
+module _ (t : ℤ) (f : SFits w64 t) where
   read : to_z w64 (of_z w64 t) ≡ t
-  read = to_z-of_z w64 t c.ranges.thousandths
+  read = to_z-of_z w64 t f
 
   divides : SFits w64 (quot_z (to_z w64 (of_z w64 t)) (pos 1000))
-  divides = rw read (cut_fits t 1000 c.ranges.thousandths)
+  divides = rw read (cut_fits t 1000 f)
 
   whole-held : Held (of_z w64 (quot_z (to_z w64 (of_z w64 t)) (pos 1000))) (whole t) 9223372036854776
-  whole-held = rw read (held (whole t) 9223372036854776 (whole-size t c.ranges.thousandths) (lit< tt))
+  whole-held = rw read (held (whole t) 9223372036854776 (whole-size t f) (lit< tt))
 
   rest-held : Held (of_z w64 (rem_z (to_z w64 (of_z w64 t)) (pos 1000))) (rest t) 999
   rest-held = rw read (held (rest t) 999 (rest-size t) (lit< tt))
@@ -85,20 +82,19 @@ record Adds (t : ℤ) (a : ℕ) : Type 0 where
   holds : Held a e 1
   rounds : whole t +ℤ e ≡ nearest_wh t
 
-adds-as : (t e : ℤ) {a b : ℕ} → a ≡ b → Held b e 1 → whole t +ℤ e ≡ nearest_wh t → Adds t a
-adds-as t e same h r = record { e = e; holds = rw same h; rounds = r }
+adds-as : (t e : ℤ) {a : ℕ} → to_z w64 a ≡ e → nat_abs e ≤ 1 → whole t +ℤ e ≡ nearest_wh t → Adds t a
+adds-as t e same h r = record { e = e; holds = record { reads = same; bound = h }; rounds = r }
 
 -- by what the two tests told
-adds : (c : goal.Joined-rest-ltminus499) → Adds (t c.before) c.if-rest-ltminus499.away
+adds : (c : goal.Joined-rest-ltminus499) → Adds c.args.thousandths c.if-rest-ltminus499.away-bits
 adds c =
-    let s = c.before in
-    let read-rest = (rest-held s).reads in
-    ⊎_elim
-    (λ below. adds-as (t s) (negsuc 0) below.1 (held (negsuc 0) 1 (omega arith) (lit< tt)) (one_down (t s) (lt-true _ _ (rw read-rest at below.0.taken))))
-    (⊎_elim
-    (λ above. adds-as (t s) (pos 1) above.2 (held (pos 1) 1 (omega arith) (lit< tt)) (one_up (t s) (lt-true _ _ (rw read-rest at above.1.taken))))
-    (λ between. adds-as (t s) (pos 0) between.2 (held (pos 0) 1 (omega arith) (lit< tt)) (none_more (t s) (lt-false _ _ (rw read-rest at between.0.left)) (lt-false _ _ (rw read-rest at between.1.left)))))
-    c.if-rest-ltminus499.branch
+    let t = c.args.thousandths in
+    let read-rest = (rest-held t c.ranges.thousandths).reads in
+    elim c.if-rest-ltminus499.branch [
+      | then-rest-ltminus499 w ↦ adds-as t (negsuc 0) w.away-is (omega arith) (one_down t (lt-true _ _ (rw read-rest at w.if-rest-ltminus499.true)))
+      | else-rest-ltminus499+then-rest-gt499 w ↦ adds-as t (pos 1) w.away-is (omega arith) (one_up t (lt-true _ _ (rw read-rest at w.if-rest-gt499.true)))
+      | else-rest-ltminus499+else-rest-gt499 w ↦ adds-as t (pos 0) w.away-is (omega arith) (none_more t (lt-false _ _ (rw read-rest at w.if-rest-ltminus499.false)) (lt-false _ _ (rw read-rest at w.if-rest-gt499.false)))
+    ]
 
 -- times however many thousandths the code takes off for a Wh
 module _ {a : ℕ} {e : ℤ} (h : Held a e 1) (n : ℕ) (small : n * 1 < 2 ^ 63) where
@@ -112,24 +108,25 @@ module _ {a : ℕ} {e : ℤ} (h : Held a e 1) (n : ℕ) (small : n * 1 < 2 ^ 63)
   off-held = rw h.reads (held (pos n *ℤ e) (n * 1) off-bound small)
 
 pub nonzero_div-whole : goal.nonzero_div-whole
-nonzero_div-whole c = (lit< tt, divides c)
+nonzero_div-whole c = (lit< tt, divides c.args.thousandths c.ranges.thousandths)
 
 pub nonzero_rem-rest : goal.nonzero_rem-rest
-nonzero_rem-rest c = (lit< tt, divides c)
+nonzero_rem-rest c = (lit< tt, divides c.args.thousandths c.ranges.thousandths)
 
 pub overflow_add-result : goal.overflow_add-result
-overflow_add-result c = plus-fits (whole-held c.before) (adds c).holds (lit< tt)
+overflow_add-result c = plus-fits (whole-held c.args.thousandths c.ranges.thousandths) (adds c).holds (lit< tt)
 
 pub overflow_mul-result : goal.overflow_mul-result
 overflow_mul-result c = off-fits (adds c).holds _ (lit< tt)
 
 pub overflow_sub-result : goal.overflow_sub-result
-overflow_sub-result c = minus-fits (rest-held c.before) (off-held (adds c).holds _ (lit< tt)) (lit< tt)
+overflow_sub-result c = minus-fits (rest-held c.args.thousandths c.ranges.thousandths) (off-held (adds c).holds _ (lit< tt)) (lit< tt)
 
 pub returns : goal.returns
 returns c =
-    let s = c.before in
+    let t = c.args.thousandths in
+    let f = c.ranges.thousandths in
     let x = adds c in
     ap₂ (λ (w d : ℤ). record { wh = w; dropped = d })
-    ((plus-held (whole-held s) x.holds (lit< tt)).reads ∙ x.rounds)
-    ((minus-held (rest-held s) (off-held x.holds _ (lit< tt)) (lit< tt)).reads ∙ left_over (t s) x.e x.rounds)
+    ((plus-held (whole-held t f) x.holds (lit< tt)).reads ∙ x.rounds)
+    ((minus-held (rest-held t f) (off-held x.holds _ (lit< tt)) (lit< tt)).reads ∙ left_over t x.e x.rounds)

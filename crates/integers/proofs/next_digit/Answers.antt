@@ -3,12 +3,11 @@ use mathlib.Core.Path.{◌≡◌}
 use Prim.Native.Nat.{ℕ, ◌*◌}
 use native.Mathlib.Omega.{arith}
 use native.Mathlib.Nat.{le_trans}
-use borrow.Author.Rules.{rules}
 use lib.Dec.{lit<}
 use lib.IntN.{ℤ, pos, negsuc, nat_abs, ◌+ℤ◌, ◌*ℤ◌, +ℤ_assoc}
 use lib.Signed.{◌<ℤ◌}
 use mir.Syntax.{w64}
-use mir.Val.{to_z, of_z}
+use mir.Val.{SFits, to_z, of_z}
 use mir.ValLaws.{to_z-of_z, to_z_pos}
 use Rattle.integers.specs.declared.Quotient.{Quotient}
 use Rattle.integers.specs.Quotient.{floor_of, fraction_of, quotient_of}
@@ -63,12 +62,11 @@ module _ {done : Quotient} {digit : ℕ} {a w : ℤ} (ok : DigitArguments done d
       let y = pos digit *ℤ a in
       held (floor_of left (nat_abs w)) 5733000000000000000 (le_trans (size-floor left (nat_abs w)) (plus-bound x y shifted-held.bound product-held.bound)) (lit< tt)
 
-module _ (c : goal.After-floor_quotient-step) where
-  abbrev start : goal.Start
-  start = c.before.before
-
-  step_is : c.floor_quotient-step.result ≡ quotient_of (left start.requires) (nat_abs start.args.w)
-  step_is = rw ((plus-held (shifted-held start.requires) (product-held start.requires) (lit< tt)).reads, to_z-of_z w64 _ start.fits.w) at c.floor_quotient-step.ensures
+-- the quotient of what is left of the sum, as the code reads the sum and w
+step_is : {done r : Quotient} {digit : ℕ} {a w : ℤ} (ok : DigitArguments done digit a w) → SFits w64 w
+    → r ≡ quotient_of (to_z w64 (of_z w64 (to_z w64 (of_z w64 (to_z w64 done.fraction *ℤ pos 2048)) +ℤ to_z w64 (of_z w64 (to_z w64 digit *ℤ to_z w64 (of_z w64 a)))))) (nat_abs (to_z w64 (of_z w64 w)))
+    → r ≡ quotient_of (left ok) (nat_abs w)
+step_is ok f e = rw ((plus-held (shifted-held ok) (product-held ok) (lit< tt)).reads, to_z-of_z w64 _ f) at e
 
 pub overflow_mul-left : goal.overflow_mul-left
 overflow_mul-left c = times-fits (fraction-held c.requires) (held-literal 2048 (lit< tt)) (lit< tt)
@@ -85,11 +83,10 @@ overflow_mul-result c = times-fits (floor-held c.requires) (held-literal 2048 (l
 pub overflow_add-result : goal.overflow_add-result
 overflow_add-result c =
     let p = c.requires in
-    rw (step_is c.before.before.before.before) (plus-fits (raised-held p) (step-held p) (lit< tt))
+    rw (step_is p c.ranges.w c.floor_quotient-step.ensures) (plus-fits (raised-held p) (step-held p) (lit< tt))
 
 pub returns : goal.returns
 returns c =
-    let s = c.before.before.before.before.before.before in
-    let p = s.requires in
-    rw (step_is c.before.before.before.before, (plus-held (raised-held p) (step-held p) (lit< tt)).reads)
-    (quotient_is s.args.done.floor s.args.w (pos s.args.digit *ℤ s.args.a) s.args.done.fraction p.w-positive)
+    let p = c.requires in
+    rw (step_is p c.ranges.w c.floor_quotient-step.ensures, (plus-held (raised-held p) (step-held p) (lit< tt)).reads)
+    (quotient_is c.args.done.floor c.args.w (pos c.args.digit *ℤ c.args.a) c.args.done.fraction p.w-positive)

@@ -4,7 +4,6 @@ use mathlib.Core.Path.{◌≡◌, refl, sym, ◌∙◌}
 use mathlib.Core.Bool.{true, false}
 use mathlib.Core.List.{List}
 use native.Mathlib.Omega.{arith}
-use borrow.Author.Rules.{rules}
 use borrow.Author.Tests.{eq-eqb, ne_eqb}
 use Rattle.words.specs.Reading.{consumption_of}
 use Rattle.book.specs.Limits.{shape_missing}
@@ -12,8 +11,7 @@ use Rattle.cells.specs.declared.Use.{Use}
 use Rattle.cells.specs.Energy.{Source, actual_reading, estimated_reading, shape_default, no_energy, shape_of, shape_wh, energy_from, energy_wh, lacks_shape_from}
 use Rattle.cells.specs.Helpers.{source_number}
 use Rattle.cells.proofs.MissingShape.{shape-read}
-use Rattle.cells.proofs.meters.use_of.Statement.{statement}
-use Rattle.cells.proofs.meters.use_of.Tie as tie
+use Rattle.cells.proofs.meters.use_of.Goals as goal
 
 -- what a meter comes to, by where its energy comes from
 abbrev from : List ℕ → ℕ → ℕ → Source → Use
@@ -48,68 +46,29 @@ module _ (shapes : List ℕ) (registration reading : ℕ) where
   of-shape shape_default h k e = rw (ne_eqb (shape_of shapes registration) shape_missing e)
   of-shape no_energy h k e = absurd (k refl)
 
-source-requires : tie.Need-source-requires
-source-requires c κs = search rules
+pub returns-then-from-le-ESTIMATED : goal.returns-then-from-le-ESTIMATED
+unfolding energy_wh
+returns-then-from-le-ESTIMATED c =
+    let s = c.source-from.ensures in
+    rw (s, c.consumption.ensures) (of-reading _ _ _ _ (rw s at c.if-from-le-ESTIMATED.true))
 
-consumption-requires : tie.Need-consumption-requires
-consumption-requires c κs = search rules
+pub returns-then-from-eq-IDLE : goal.returns-then-from-eq-IDLE
+unfolding energy_wh
+returns-then-from-eq-IDLE c =
+    let s = c.source-from.ensures in
+    rw s (of_none _ _ _ _ (rw s at c.if-from-eq-IDLE.true))
 
-returns : tie.Need-returns
+pub returns-then-shape-eq-SHAPE_MISSING : goal.returns-then-shape-eq-SHAPE_MISSING
+unfolding energy_wh
+returns-then-shape-eq-SHAPE_MISSING c =
+    let s = c.source-from.ensures in
+    rw s
+    (of-missing _ _ _ _ (rw s at c.if-from-le-ESTIMATED.false) (rw s at c.if-from-eq-IDLE.false) (sym (shape-read c.args.shapes.now c.args.registration c.requires c.category-category.ensures c.wide-shape.ensures) ∙ c.if-shape-eq-SHAPE_MISSING.true))
+
+pub returns : goal.returns
 unfolding energy_wh
 returns c =
-    let s = c.before.before.source.ensures in
-    rw (s, c.consumption.ensures) (of-reading _ _ _ _ (rw s at c.before.if1.true))
-
-returns-2 : tie.Need-returns-2
-unfolding energy_wh
-returns-2 c =
-    let s = c.before.before.source.ensures in
-    rw s (of_none _ _ _ _ (rw s at c.if2.true))
-
-category-requires : tie.Need-category-requires
-category-requires c κs = search rules
-
-mul_wide : tie.Need-overflow-mul-wide
-mul_wide c = search rules
-
-element-copy-out-wide : tie.Need-element-copy-out-wide
-element-copy-out-wide c = search rules
-
-wide-requires : tie.Need-wide-requires
-wide-requires c κs = search rules
-
--- the shape that was read is that of the meter's category
-shape-seen : (c : tie.After-wide) → let a = c.before.before.before.before.before.before.args in c.wide.result ≡ shape_of a.shapes.now a.registration
-shape-seen c =
-    let a = c.before.before.before.before.before.before.args in
-    shape-read a.shapes.now a.registration c.before.before.before.before.before.before.requires c.before.before.category.ensures c.wide.ensures
-
-returns-3 : tie.Need-returns-3
-unfolding energy_wh
-returns-3 c =
-    let s = c.before.before.before.before.before.before.source.ensures in
-    rw s
-    (of-missing _ _ _ _ (rw s at c.before.before.before.before.before.if1.false) (rw s at c.before.before.before.before.if2.false) (sym (shape-seen c.before) ∙ c.if3.true))
-
-returns-4 : tie.Need-returns-4
-unfolding energy_wh
-returns-4 c =
-    let s = c.before.before.before.before.before.before.source.ensures in
-    let e = shape-seen c.before in
+    let s = c.source-from.ensures in
+    let e = shape-read c.args.shapes.now c.args.registration c.requires c.category-category.ensures c.wide-shape.ensures in
     rw (s, e)
-    (of-shape _ _ _ _ (rw s at c.before.before.before.before.before.if1.false) (rw s at c.before.before.before.before.if2.false) (rw e at c.if3.false))
-
-pub use-of-spec : {M : Type 1} → statement M
-use-of-spec =
-    tie.close
-    (tie.spec
-    source-requires
-    consumption-requires
-    returns
-    returns-2
-    category-requires
-    mul_wide
-    element-copy-out-wide
-    wide-requires
-    returns-3
-    returns-4)
+    (of-shape _ _ _ _ (rw s at c.if-from-le-ESTIMATED.false) (rw s at c.if-from-eq-IDLE.false) (rw e at c.if-shape-eq-SHAPE_MISSING.false))

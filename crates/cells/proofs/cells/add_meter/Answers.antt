@@ -10,13 +10,11 @@ use lib.Seq.{get_or-set_same, get_or-set_other}
 use mir.Syntax.{w64}
 use mir.Val.{SFits, to_z, of_z}
 use mir.ValLaws.{to_z_pos}
-use borrow.Author.Rules.{rules}
 use Rattle.integers.proofs.Fit.{Held, held, held-literal, plus-fits, plus-held, minus-fits, minus-held, times-fits, times-held}
 use Rattle.book.specs.Limits.{classes}
 use Rattle.cells.specs.Helpers.{added, AddArguments}
 use Rattle.cells.proofs.Tables.{entry_of}
-use Rattle.cells.proofs.cells.add_meter.Statement.{statement}
-use Rattle.cells.proofs.cells.add_meter.Tie as tie
+use Rattle.cells.proofs.cells.add_meter.Goals as goal
 
 -- a table with another number in one cell
 abbrev stored : List (List ℤ) → ℕ → ℕ → ℤ → List (List ℤ)
@@ -71,107 +69,17 @@ module _ (table : List (List ℤ)) (unit class wh llf : ℕ) (ok : AddArguments 
       ≡ added (added table unit class (pos wh)) unit (class + 1) ((pos llf -ℤ pos 1000) *ℤ pos wh)
   both_stored x e = rw (loss-sum-reads x, e)
 
-cast-energy : tie.Need-overflow-cast-energy
-cast-energy c = search rules
+pub overflow_sub-loss : goal.overflow_sub-loss
+overflow_sub-loss c = excess-fits _ _ _ _ _ c.requires
 
-cast-loss : tie.Need-overflow-cast-loss
-cast-loss c = search rules
+pub overflow_mul-loss : goal.overflow_mul-loss
+overflow_mul-loss c = loss-fits _ _ _ _ _ c.requires
 
-sub-loss : tie.Need-overflow-sub-loss
-sub-loss c = excess-fits _ _ _ _ _ c.requires
+pub overflow_add-cells : goal.overflow_add-cells
+overflow_add-cells c = energy-sum-fits _ _ _ _ _ c.requires
 
-mul-loss : tie.Need-overflow-mul-loss
-mul-loss c = loss-fits _ _ _ _ _ c.requires
+pub overflow_add-cells-3 : goal.overflow_add-cells-3
+overflow_add-cells-3 c = loss-sum-fits _ _ _ _ _ c.requires _
 
-mul-cells : tie.Need-overflow-mul-cells
-mul-cells c = search rules
-
-mul-cells-2 : tie.Need-overflow-mul-cells-2
-mul-cells-2 c = search rules
-
-index-1-cells : tie.Need-bounds-1-cells
-index-1-cells c = search rules
-
-index-2-cells : tie.Need-bounds-2-cells
-index-2-cells c = search rules
-
-add-cells : tie.Need-overflow-add-cells
-add-cells c = energy-sum-fits _ _ _ _ _ c.before.requires
-
-mul-cells-3 : tie.Need-overflow-mul-cells-3
-mul-cells-3 c = search rules
-
-mul-cells-4 : tie.Need-overflow-mul-cells-4
-mul-cells-4 c = search rules
-
-index-1-cells-2 : tie.Need-bounds-1-cells-2
-index-1-cells-2 c = search rules
-
-index-2-cells-2 : tie.Need-bounds-2-cells-2
-index-2-cells-2 c = search rules
-
-add-cells-2 : tie.Need-overflow-add-cells-2
-add-cells-2 c = search rules
-
-mul-cells-5 : tie.Need-overflow-mul-cells-5
-mul-cells-5 c = search rules
-
-mul-cells-6 : tie.Need-overflow-mul-cells-6
-mul-cells-6 c = search rules
-
-index-1-cells-3 : tie.Need-bounds-1-cells-3
-index-1-cells-3 c = search rules
-
-index-2-cells-3 : tie.Need-bounds-2-cells-3
-index-2-cells-3 c = search rules
-
-add-cells-3 : tie.Need-overflow-add-cells-3
-add-cells-3 c = loss-sum-fits _ _ _ _ _ c.before.before.requires _
-
-add-t13 : tie.Need-overflow-add-t13
-add-t13 c = search rules
-
-mul-t26 : tie.Need-overflow-mul-t26
-mul-t26 c = search rules
-
-mul-t29 : tie.Need-overflow-mul-t29
-mul-t29 c = search rules
-
-index-1-cells-4 : tie.Need-bounds-1-cells-4
-index-1-cells-4 c = search rules
-
-index-2-cells-4 : tie.Need-bounds-2-cells-4
-index-2-cells-4 c = search rules
-
-returns : tie.Need-returns
-returns c = both_stored _ _ _ _ _ c.before.before.requires _ (energy-sum-reads _ _ _ _ _ c.before.before.requires)
-
-pub add-meter-spec : {M : Type 1} → statement M
-add-meter-spec =
-    tie.close
-    (tie.spec
-    cast-energy
-    cast-loss
-    sub-loss
-    mul-loss
-    mul-cells
-    mul-cells-2
-    index-1-cells
-    index-2-cells
-    add-cells
-    mul-cells-3
-    mul-cells-4
-    index-1-cells-2
-    index-2-cells-2
-    add-cells-2
-    mul-cells-5
-    mul-cells-6
-    index-1-cells-3
-    index-2-cells-3
-    add-cells-3
-    add-t13
-    mul-t26
-    mul-t29
-    index-1-cells-4
-    index-2-cells-4
-    returns)
+pub returns : goal.returns
+returns c = both_stored _ _ _ _ _ c.requires _ (energy-sum-reads _ _ _ _ _ c.requires)
