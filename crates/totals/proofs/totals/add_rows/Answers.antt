@@ -1,8 +1,6 @@
--- `add_rows` meets its contract: after i rows the first words are the totals of the first i rows, and a turn is one meter more. Assumes nothing.
-use Prim.Native.Nat.{ℕ, ◌+◌, ◌*◌, ◌-◌, ◌≤◌, ◌<◌}
+use Prim.Native.Nat.{ℕ, ◌+◌, ◌*◌, ◌≤◌, ◌<◌}
 use mathlib.Core.Path.{◌≡◌, sym, ◌∙◌, ap}
 use mathlib.Core.Bool.{Bool, true, false, ◌&&◌}
-use mathlib.Core.Logic.{⊎_elim}
 use mathlib.Core.List.{List, [], ◌++◌}
 use native.Mathlib.Omega.{arith}
 use lib.Dec.{eqb}
@@ -20,8 +18,8 @@ use Rattle.totals.specs.Totals.{tariffs, totals_words, totals_of}
 use Rattle.totals.specs.Helpers.{with_meter, AddArguments, AddRowsArguments}
 use Rattle.totals.proofs.TotalAt.{totals-length, totals-are, total-most}
 use Rattle.totals.proofs.OneMore.{totals-kept, totals-more, with-meter-append}
-use Rattle.totals.proofs.totals.add_rows.Statement.{statement}
-use Rattle.totals.proofs.totals.add_rows.Tie as tie
+use Rattle.totals.proofs.totals.add_rows.Goals as goal
+use Rattle.totals.proofs.totals.add_rows.Goals.{then-is_asked, else-is_asked}
 
 module _ (words : List ℕ) (n : ℕ) (shapes start : List ℕ) (ok : AddRowsArguments start words n shapes) (direction network : ℕ) where
   -- the slice after i rows
@@ -86,101 +84,31 @@ module _ (words : List ℕ) (n : ℕ) (shapes start : List ℕ) (ok : AddRowsArg
         (with-meter-append (totals_of shapes (rows_of i words) direction network) (drop totals_words start) this.registration this_use (totals-length shapes (rows_of i words) direction network 0 tariffs)
         ∙ ap (λ (xs : List ℕ). xs ++ drop totals_words start) (totals-more shapes (rows_of i words) this direction network same))
 
-abbrev invariant-loop : tie.invariant-loop
-invariant-loop totals₀ rows n shapes direction network i₀ totals i =
-    (i ≤ n) × (totals ≡ totals_of shapes (rows_of i rows) direction network ++ drop totals_words totals₀)
+pub loop-i-init : goal.loop-i-init
+loop-i-init c = (omega arith, none-added _ _ _ _ c.requires.fact_1 _ _)
 
-abbrev decreases-loop : tie.decreases-loop
-decreases-loop totals₀ rows n shapes direction network i₀ totals i = n - i
+pub is_asked-requires : goal.is_asked-requires
+is_asked-requires c = record { fact_1 = c.requires.fact_2; fact_2 = c.requires.fact_3 }
 
-loop-holds : tie.Need-loop-init invariant-loop decreases-loop
-loop-holds c = (omega arith, none-added _ _ _ _ c.before.before.requires.0 _ _)
+pub use_of-meter-requires : goal.use_of-meter-requires
+use_of-meter-requires c = c.requires.fact_1.shapes-long
 
-mul-registration : tie.Need-overflow-mul-registration invariant-loop decreases-loop
-mul-registration c = omega arith
+pub add_meter-requires : goal.add_meter-requires
+add_meter-requires c = turn-asks _ _ _ _ c.requires.fact_1 _ _ _ c.loop-i-test.true c.loop-i.invariant.1 c.use_of-meter.ensures
 
-add-registration : tie.Need-overflow-add-registration invariant-loop decreases-loop
-add-registration c = omega arith
+pub loop-i-preserved : goal.loop-i-preserved
+loop-i-preserved c = (
+  omega arith,
+  elim c.if-is_asked.branch [
+    | then-is_asked w ↦ w.totals-is ∙ turn-adds _ _ _ _ c.requires.fact_1 _ _ _ c.loop-i-test.true c.loop-i.invariant.1 (sym c.is_asked.ensures ∙ w.if-is_asked.true) w.use_of-meter.ensures w.add_meter.ensures
+    | else-is_asked w ↦ w.totals-is ∙ turn-passes _ _ _ _ c.requires.fact_1 _ _ _ c.loop-i-test.true c.loop-i.invariant.1 (sym c.is_asked.ensures ∙ w.if-is_asked.false)
+  ],
+)
 
-mul-registration-2 : tie.Need-overflow-mul-registration-2 invariant-loop decreases-loop
-mul-registration-2 c = omega arith
+pub shape_of-totals : goal.shape_of-totals
+shape_of-totals c = ap length c.loop-i.invariant.1 ∙ same_size _ _ _ _ c.requires.fact_1 _ _ _
 
-shared-slice-read-registration : tie.Need-shared-slice-read-registration invariant-loop decreases-loop
-shared-slice-read-registration c = omega arith
-
-is-asked-requires : tie.Need-is-asked-requires invariant-loop decreases-loop
-is-asked-requires c κs = c.before.before.before.before.before.requires.1
-
-mul-use-of : tie.Need-overflow-mul-use-of invariant-loop decreases-loop
-mul-use-of c = omega arith
-
-add-use-of : tie.Need-overflow-add-use-of invariant-loop decreases-loop
-add-use-of c = omega arith
-
-mul-use-of-2 : tie.Need-overflow-mul-use-of-2 invariant-loop decreases-loop
-mul-use-of-2 c = omega arith
-
-shared-slice-read-use-of : tie.Need-shared-slice-read-use-of invariant-loop decreases-loop
-shared-slice-read-use-of c = omega arith
-
--- where a row has been tested: what was known when its turn began
-abbrev turn : tie.After-is-asked invariant-loop decreases-loop → tie.In-loop invariant-loop decreases-loop
-turn c = c.before.before
-
-use-of-requires : tie.Need-use-of-requires invariant-loop decreases-loop
-use-of-requires c κs = (turn c.before.before).before.before.before.before.pre.0.shapes-long
-
-add-meter-requires : tie.Need-add-meter-requires invariant-loop decreases-loop
-add-meter-requires c κs =
-    let u = c.before in
-    let t = turn u.before.before.before in
-    turn-asks _ _ _ _ t.before.before.before.before.pre.0 _ _ _ t.loop-test.taken t.before.loop.inv.1 u.use-of.ensures
-
-add-i : tie.Need-overflow-add-i invariant-loop decreases-loop
-add-i c = omega arith
-
-loop-less : tie.Need-loop-smaller invariant-loop decreases-loop
-loop-less c = omega arith
-
-loop-again : tie.Need-loop-preserved invariant-loop decreases-loop
-loop-again c =
-    let t = turn c.before in
-    let asks = sym c.before.is-asked.ensures in (
-      omega arith,
-      ⊎_elim
-          (λ w. w.7 ∙ turn-adds _ _ _ _ t.before.before.before.before.pre.0 _ _ _ t.loop-test.taken t.before.loop.inv.1 (asks ∙ w.0.taken) w.2.ensures w.4.ensures)
-          (λ w. w.1 ∙ turn-passes _ _ _ _ t.before.before.before.before.pre.0 _ _ _ t.loop-test.taken t.before.loop.inv.1 (asks ∙ w.0.left))
-          c.if1.branch,
-    )
-
-same_length : tie.Need-same-length invariant-loop decreases-loop
-same_length c = ap length c.before.loop.invariant.1 ∙ same_size _ _ _ _ c.before.before.before.before.requires.0 _ _ _
-
-returns : tie.Need-returns invariant-loop decreases-loop
+pub returns : goal.returns
 returns c =
-    let e : c.before.loop.i ≡ c.before.before.before.before.args.n = omega arith in
-    rw e at c.before.loop.invariant.1
-
-pub add-rows-spec : {M : Type 1} → statement M
-add-rows-spec =
-    tie.close
-    (tie.spec
-    invariant-loop
-    decreases-loop
-    loop-holds
-    mul-registration
-    add-registration
-    mul-registration-2
-    shared-slice-read-registration
-    is-asked-requires
-    mul-use-of
-    add-use-of
-    mul-use-of-2
-    shared-slice-read-use-of
-    use-of-requires
-    add-meter-requires
-    add-i
-    loop-less
-    loop-again
-    same_length
-    returns)
+    let e : c.loop-i.i ≡ c.args.n = omega arith in
+    rw e at c.loop-i.invariant.1
