@@ -14,6 +14,10 @@ use Rattle.book.proofs.WellFormed.{room}
 use Rattle.two_parts.specs.TwoParts.{merged, later_rows, as_one, PartsReady}
 use Rattle.two_parts.proofs.Merged.{length_merged, merged-formed}
 
+-- both parts are within the slice
+pub both-fit : {first later : ℕ} {words : List ℕ} → PartsReady first later words → 3 * (first + later) ≤ length words
+both-fit {first} {later} {words} ready = room words (first + later) ready.within-capacity
+
 module _ (first later : ℕ) (words : List ℕ) where
   -- as many rows as the parts have
   pub as-one-count : length (merged (rows_of first words) (later_rows first later words)) ≡ first + later
