@@ -1,15 +1,10 @@
 -- `all_units` meets its contract. The loop's invariant: n and a of the units passed are filled in. Assumes nothing.
-use Prim.Native.Nat.{ℕ, ◌-◌, ◌≤◌, ◌<◌}
-use mathlib.Core.Path.{sym, ◌∙◌}
-use mathlib.Core.List.{List, []}
-use native.Mathlib.Omega.{arith}
+use Prim.Native.Nat.{ℕ, ◌-◌, ◌≤◌}
+use mathlib.Core.List.{List}
 use lib.IntN.{ℤ}
-use lib.ListN.{length}
-use mir.Syntax.{w64}
-use mir.ValLaws.{to_z-of_z}
 use Rattle.correction.specs.Correction.{net_in, weighted_in}
 use Rattle.correction.specs.Helpers.{sums_of, droppings_of}
-use Rattle.correction.proofs.Filled.{Filled, filled_none, filled_next, filled-all}
+use Rattle.correction.proofs.Filled.{Filled}
 use Rattle.correction.proofs.sums.all_units.Given as goal
 
 abbrev pub NetsFilled : List (List ℤ) → List ℕ → List ℤ → ℕ → Type 0

@@ -1,23 +1,39 @@
-use Prim.Native.Nat.{ℕ, suc, ◌+◌, ◌-◌, ◌*◌, ◌%◌, ◌≤◌, ◌<◌}
-use mathlib.Core.Path.{◌≡◌, ap}
-use mathlib.Core.List.{List, []}
+use Prim.Native.Nat.{ℕ, suc, ◌+◌, ◌*◌, ◌%◌, ◌≤◌, ◌<◌}
+use mathlib.Core.Path.{◌≡◌, refl, ap}
+use mathlib.Core.List.{List}
 use native.Mathlib.Omega.{arith}
 use native.Mathlib.Numerals.{add-one}
-use lib.IntN.{ℤ, pos, ◌+ℤ◌, ◌*ℤ◌, +ℤ_idl}
+use lib.IntN.{ℤ, pos, nat_abs, ◌+ℤ◌, ◌*ℤ◌, +ℤ_idl}
 use lib.ListN.{length, take, get_or}
 use lib.Seq.{take_all}
 use mir.Syntax.{w64}
 use mir.Val.{SFits, to_z, of_z}
 use mir.ValLaws.{to_z-of_z}
 use Rattle.integers.specs.declared.Rounded.{Rounded}
-use Rattle.integers.specs.Rounding.{dropped_thousandths, rounded_of}
-use Rattle.integers.proofs.Nearest.{nearest-half}
-use Rattle.integers.proofs.Fit.{Held, held, held-literal, plus-fits, plus-held, times-fits, times-held}
+use Rattle.integers.specs.Rounding.{nearest_wh, dropped_thousandths, rounded_of}
+use Rattle.integers.proofs.Nearest.{nearest-size, nearest-half}
+use Rattle.integers.proofs.Fit.{Held, fit, held, plus-fits, plus-held, times-fits, times-held}
 use Rattle.correction.specs.Correction.{by_direction, net_of, weighted_of}
 use Rattle.correction.specs.Helpers.{whole_cell, dropped_cell, rounded_from, dropped_from, unit_figures_of, UnitArguments}
 use Rattle.correction.proofs.RunningSums.{each-length, used-entry, lost-entry, none_dropped, loss-dropped, net-next-pair, weighted-next, direction-size}
-use Rattle.correction.proofs.sums.unit_sums.Invariants.{NetHeld, WeightedHeld, DroppedHeld}
+use Rattle.correction.proofs.sums.unit_sums.Invariants.{Running, NetRuns, WeightedRuns, DroppedRuns}
 use Rattle.correction.proofs.sums.unit_sums.Goals as goal
+
+-- a running sum as the code holds it, in the bits n
+running-held : (n : ℕ) {z : ℤ} {B : ℕ} → Running (to_z w64 n) z B → Held n z B
+running-held n r = record { reads = r.0; bound = rw r.0 at r.1 }
+
+held-running : {n : ℕ} {z : ℤ} {B : ℕ} → Held n z B → Running (to_z w64 n) z B
+held-running h = (h.reads, rw h.reads h.bound)
+
+abbrev NetHeld : List ℤ → ℕ → ℕ → Type 0
+NetHeld cells i net = Held net (net_of 0 (take i (rounded_from 0 cells))) (i * 1400000000000)
+
+abbrev WeightedHeld : List ℤ → List ℕ → ℕ → ℕ → Type 0
+WeightedHeld cells weights i weighted = Held weighted (weighted_of (take i (rounded_from 0 cells)) weights) (i * 1400000000000000)
+
+abbrev DroppedHeld : List ℤ → ℕ → ℕ → Type 0
+DroppedHeld cells i droppings = Held droppings (net_of 0 (take i (dropped_from 0 cells))) (i * 250)
 
 -- a cell of class k, rounded
 record Cell (cells : List ℤ) (weights : List ℕ) (k : ℕ) (c : ℤ) : Type 0 where
@@ -58,8 +74,7 @@ module _ {cells : List ℤ} {weights : List ℕ} {k : ℕ} {c : ℤ} (x : Cell c
           (plus-held a product (omega (arith, x.class-bound)))
 
 -- a pair of cells, consumption and losses, goes into n
-module _ {cells : List ℤ} {weights : List ℕ} {i net : ℕ} {used lost : ℤ} (x : Cell cells weights i used) (y : Cell cells weights (i + 1) lost) (n : NetHeld cells i net)
-    (even : i % 2 ≡ 0) where
+module _ {cells : List ℤ} {weights : List ℕ} {i : ℕ} {used lost : ℤ} (x : Cell cells weights i used) (y : Cell cells weights (i + 1) lost) where
   both-fit : SFits w64 (to_z w64 (of_z w64 used) +ℤ to_z w64 (of_z w64 lost))
   both-fit = plus-fits (cell x) (cell y) (omega arith)
 
@@ -67,7 +82,7 @@ module _ {cells : List ℤ} {weights : List ℕ} {i net : ℕ} {used lost : ℤ}
   both = plus-held (cell x) (cell y) (omega arith)
 
   -- with its sign, d
-  module _ {d : ℤ} (e : d ≡ by_direction i (used +ℤ lost)) where
+  module _ {net : ℕ} (n : NetHeld cells i net) (even : i % 2 ≡ 0) {d : ℤ} (e : d ≡ by_direction i (used +ℤ lost)) where
     directed : Held (of_z w64 d) d (1400000000000 + 1400000000000)
     directed = held d (1400000000000 + 1400000000000) (rw (e, direction-size i (used +ℤ lost)) both.bound) (omega arith)
 
@@ -103,6 +118,73 @@ module _ (cells : List ℤ) (i : ℕ) {droppings : ℕ} {dropped d : ℤ} (long 
       rw (bound, two, net-next-pair (dropped_from 0 cells) i inside even, none_dropped cells i even (omega arith), of-loss, +ℤ_idl, ← is-dropped, ← e)
       (plus-held p drop-held (omega arith))
 
+-- a loss that is a whole number of Wh in range once rounded is in range before
+loss-fits : (x : ℤ) → nat_abs (nearest_wh x) ≤ 1400000000000 → SFits w64 x
+loss-fits x h = fit x 1400000000000500 (omega (arith, nearest-size x)) (omega arith)
+
+-- the pair of a turn: of an even class, and what its losses are rounded to
+record Turn (cells : List ℤ) (weights : List ℕ) (i : ℕ) (rounded : Rounded) : Type 0 where
+  args : UnitArguments cells weights
+  class-bound : i < 24
+  even : i % 2 ≡ 0
+  gives : rounded ≡ rounded_of (to_z w64 (of_z w64 (get_or cells (i + 1) (pos 0))))
+
+turn : {cells : List ℤ} {weights : List ℕ} {rounded : Rounded} (i : ℕ) → UnitArguments cells weights → i < 24 → i % 2 ≡ 0
+    → rounded ≡ rounded_of (to_z w64 (of_z w64 (get_or cells (i + 1) (pos 0)))) → Turn cells weights i rounded
+turn i args class-bound even gives = record { args = args; class-bound = class-bound; even = even; gives = gives }
+
+module _ {cells : List ℤ} {weights : List ℕ} {i : ℕ} {rounded : Rounded} (t : Turn cells weights i rounded) where
+  loss-inside : i + 1 < 24
+  loss-inside = omega (arith, t.class-bound, t.even)
+
+  used-cell : Cell cells weights i (get_or cells i (pos 0))
+  used-cell =
+      record {
+        args = t.args;
+        class-bound = t.class-bound;
+        cell-is = rw (used-entry cells i t.even (omega (arith, t.class-bound, t.args.cells-long)));
+      }
+
+  lost-is : get_or (rounded_from 0 cells) (i + 1) (pos 0) ≡ nearest_wh (get_or cells (i + 1) (pos 0))
+  lost-is = lost-entry cells i t.even (omega (arith, loss-inside, t.args.cells-long))
+
+  rounded-is : rounded ≡ rounded_of (get_or cells (i + 1) (pos 0))
+  rounded-is = rw (to_z-of_z w64 _ (loss-fits _ (rw lost-is at (t.args.cells-bound (i + 1))))) at t.gives
+
+  lost-cell : Cell cells weights (i + 1) rounded.wh
+  lost-cell =
+      record {
+        args = t.args;
+        class-bound = loss-inside;
+        cell-is = rw lost-is (ap (λ (r : Rounded). r.wh) rounded-is);
+      }
+
+  dropped-is : rounded.dropped ≡ dropped_thousandths (get_or cells (i + 1) (pos 0))
+  dropped-is = ap (λ (r : Rounded). r.dropped) rounded-is
+
+  pair-fits : SFits w64 (to_z w64 (of_z w64 (get_or cells i (pos 0))) +ℤ to_z w64 (of_z w64 rounded.wh))
+  pair-fits = both-fit used-cell lost-cell
+
+  pair-held : Held (of_z w64 (to_z w64 (of_z w64 (get_or cells i (pos 0))) +ℤ to_z w64 (of_z w64 rounded.wh))) (get_or cells i (pos 0) +ℤ rounded.wh) (1400000000000 + 1400000000000)
+  pair-held = both used-cell lost-cell
+
+  pair-small : nat_abs (to_z w64 (of_z w64 (to_z w64 (of_z w64 (get_or cells i (pos 0))) +ℤ to_z w64 (of_z w64 rounded.wh)))) < 9223372036854775808
+  pair-small = rw pair-held.reads (omega (arith, pair-held.bound))
+
+  dropped-read : to_z w64 (of_z w64 rounded.dropped) ≡ rounded.dropped
+  dropped-read = (held rounded.dropped 500 (rw dropped-is (nearest-half _)) (omega arith)).reads
+
+  dropped-small : nat_abs (to_z w64 (of_z w64 rounded.dropped)) < 9223372036854775808
+  dropped-small = rw (dropped-read, dropped-is) (omega (arith, nearest-half (get_or cells (i + 1) (pos 0))))
+
+  -- its part of n, as the code works it
+  directed-is : {d : ℤ} → d ≡ by_direction i (to_z w64 (of_z w64 (to_z w64 (of_z w64 (get_or cells i (pos 0))) +ℤ to_z w64 (of_z w64 rounded.wh)))) → d ≡ by_direction i (get_or cells i (pos 0) +ℤ rounded.wh)
+  directed-is e = rw pair-held.reads at e
+
+  -- and of the droppings
+  signed_is : {d : ℤ} → d ≡ by_direction i (to_z w64 (of_z w64 rounded.dropped)) → d ≡ by_direction i rounded.dropped
+  signed_is e = rw dropped-read at e
+
 -- past the last class
 module _ (cells : List ℤ) (weights : List ℕ) (i net weighted droppings : ℕ) (args : UnitArguments cells weights) (past : 24 ≤ i) where
   all-passed : take i (rounded_from 0 cells) ≡ rounded_from 0 cells
@@ -111,148 +193,70 @@ module _ (cells : List ℤ) (weights : List ℕ) (i net weighted droppings : ℕ
   all-dropped : take i (dropped_from 0 cells) ≡ dropped_from 0 cells
   all-dropped = take_all i (dropped_from 0 cells) (omega (arith, each-length dropped_cell 0 cells, args.cells-long))
 
-  result : NetHeld cells i net → WeightedHeld cells weights i weighted → DroppedHeld cells i droppings
+  result : NetRuns cells i (to_z w64 net) → WeightedRuns cells weights i (to_z w64 weighted) → DroppedRuns cells i (to_z w64 droppings)
       → record { sums = record { net = to_z w64 net; weighted = to_z w64 weighted }; droppings = to_z w64 droppings } ≡ unit_figures_of cells weights
-  result n a d = rw (n.reads, a.reads, d.reads, all-passed, all-dropped)
-
--- the pair of a turn
-module _ (c : goal.After-nearest_wh-rounded) where
-  abbrev start : goal.Start
-  start = c.before.before.before.before.before.before.before
-
-  abbrev row : List ℤ
-  row = get_or start.args.cells.now start.args.unit []
-
-  abbrev weights : List ℕ
-  weights = start.args.weights.now
-
-  abbrev class : ℕ
-  class = c.loop-class.class
-
-  even : class % 2 ≡ 0
-  even = c.loop-class.invariant.1.0
-
-  net-held : NetHeld row class c.loop-class.net
-  net-held = c.loop-class.invariant.1.1.0
-
-  weighted-held : WeightedHeld row weights class c.loop-class.weighted
-  weighted-held = c.loop-class.invariant.1.1.1.0
-
-  droppings-held : DroppedHeld row class c.loop-class.droppings
-  droppings-held = c.loop-class.invariant.1.1.1.1
-
-  used-cell : Cell row weights class (get_or row class (pos 0))
-  used-cell =
-      record {
-        args = start.requires.fact_2;
-        class-bound = omega arith;
-        cell-is = rw (used-entry row class even (omega (arith, start.requires.fact_2.cells-long)));
-      }
-
-  rounded-is : c.nearest_wh-rounded.result ≡ rounded_of (get_or row (class + 1) (pos 0))
-  rounded-is = rw (to_z-of_z w64 _ (record { sfits = c.nearest-wh-arg.given })) at c.nearest_wh-rounded.ensures
-
-  abbrev lost : ℤ
-  lost = c.nearest_wh-rounded.result.wh
-
-  abbrev dropped : ℤ
-  dropped = c.nearest_wh-rounded.result.dropped
-
-  lost-cell : Cell row weights (class + 1) lost
-  lost-cell =
-      record {
-        args = start.requires.fact_2;
-        class-bound = omega arith;
-        cell-is = rw (lost-entry row class even (omega (arith, start.requires.fact_2.cells-long))) (ap (λ (r : Rounded). r.wh) rounded-is);
-      }
-
-  dropped-is : dropped ≡ dropped_thousandths (get_or row (class + 1) (pos 0))
-  dropped-is = ap (λ (r : Rounded). r.dropped) rounded-is
-
-  sum-held : Held (of_z w64 (to_z w64 (of_z w64 (get_or row class (pos 0))) +ℤ to_z w64 (of_z w64 lost))) (get_or row class (pos 0) +ℤ lost) (1400000000000 + 1400000000000)
-  sum-held = both used-cell lost-cell net-held even
-
-  dropped-read : to_z w64 (of_z w64 dropped) ≡ dropped
-  dropped-read = (held dropped 500 (rw dropped-is (nearest-half _)) (omega arith)).reads
-
-  -- with its sign, d, it goes into the droppings
-  module _ {d : ℤ} (e : d ≡ by_direction class (to_z w64 (of_z w64 dropped))) where
-    signed_is : d ≡ by_direction class dropped
-    signed_is = rw dropped-read at e
-
-    dropped-fits : SFits w64 (to_z w64 c.loop-class.droppings +ℤ to_z w64 (of_z w64 d))
-    dropped-fits = droppings-fit row class start.requires.fact_2.cells-long (omega arith) even droppings-held dropped-is signed_is
-
-    dropped-more : DroppedHeld row (class + 2) (of_z w64 (to_z w64 c.loop-class.droppings +ℤ to_z w64 (of_z w64 d)))
-    dropped-more = next-droppings row class start.requires.fact_2.cells-long (omega arith) even droppings-held dropped-is signed_is
-
-module _ (c : goal.After-by_direction-net) where
-  abbrev turn : goal.After-nearest_wh-rounded
-  turn = c.before.before.before
-
-  directed-is : c.by_direction-net.result ≡ by_direction (class turn) (get_or (row turn) (class turn) (pos 0) +ℤ lost turn)
-  directed-is = rw (sum-held turn).reads at c.by_direction-net.ensures
-
-module _ (c : goal.After-signed) where
-  abbrev pair : goal.After-nearest_wh-rounded
-  pair = turn c.before.before.before
-
-  used-weighted : WeightedHeld (row pair) (weights pair) (class pair + 1) (of_z w64 (to_z w64 pair.loop-class.weighted +ℤ to_z w64 (times (used-cell pair) c.signed.ensures)))
-  used-weighted = next-weighted (used-cell pair) c.signed.ensures (weighted-held pair)
+  result n a d = rw (n.0, a.0, d.0, all-passed, all-dropped)
 
 pub loop-class-init : goal.loop-class-init
 unfolding net_of weighted_of
-loop-class-init c = (omega arith, (omega arith, (held-literal 0 (omega arith), (held-literal 0 (omega arith), held-literal 0 (omega arith)))))
-
-pub nearest_wh-rounded-requires : goal.nearest_wh-rounded-requires
-nearest_wh-rounded-requires c = tt
+loop-class-init c = (omega arith, (refl, ((refl, omega arith), ((refl, omega arith), (refl, omega arith)))))
 
 pub overflow_add-used : goal.overflow_add-used
-overflow_add-used c = let p = c.before.before.before in both-fit (used-cell p) (lost-cell p) (net-held p) (even p)
+overflow_add-used c = pair-fits (turn c.loop-class.class c.requires.fact_2 c.loop-class-test.true c.loop-class.invariant.1.0 c.nearest_wh-rounded.ensures)
 
 pub by_direction-net-requires : goal.by_direction-net-requires
-by_direction-net-requires c = let p = c.before.before.before in rw (sum-held p).reads (omega (arith, (sum-held p).bound))
+by_direction-net-requires c = pair-small (turn c.loop-class.class c.requires.fact_2 c.loop-class-test.true c.loop-class.invariant.1.0 c.nearest_wh-rounded.ensures)
 
 pub overflow_add-net : goal.overflow_add-net
-overflow_add-net c = net-fits (used-cell (turn c)) (lost-cell (turn c)) (net-held (turn c)) (even (turn c)) (directed-is c)
+overflow_add-net c =
+    let t = turn c.loop-class.class c.requires.fact_2 c.loop-class-test.true c.loop-class.invariant.1.0 c.nearest_wh-rounded.ensures in
+    net-fits (used-cell t) (lost-cell t) (running-held c.loop-class.net-bits c.loop-class.invariant.1.1.0) t.even (directed-is t c.by_direction-net.ensures)
 
 pub by_direction-droppings-requires : goal.by_direction-droppings-requires
-by_direction-droppings-requires c = rw (dropped-read (turn c), dropped-is (turn c)) (omega (arith, nearest-half (get_or (row (turn c)) (class (turn c) + 1) (pos 0))))
+by_direction-droppings-requires c = dropped-small (turn c.loop-class.class c.requires.fact_2 c.loop-class-test.true c.loop-class.invariant.1.0 c.nearest_wh-rounded.ensures)
 
 pub overflow_add-droppings : goal.overflow_add-droppings
-overflow_add-droppings c = dropped-fits (turn c.before) c.by_direction-droppings.ensures
-
-pub signed-requires : goal.signed-requires
-signed-requires c = tt
+overflow_add-droppings c =
+    let t = turn c.loop-class.class c.requires.fact_2 c.loop-class-test.true c.loop-class.invariant.1.0 c.nearest_wh-rounded.ensures in
+    droppings-fit _ _ t.args.cells-long (loss-inside t) t.even (running-held c.loop-class.droppings-bits c.loop-class.invariant.1.1.1.1) (dropped-is t) (signed_is t c.by_direction-droppings.ensures)
 
 pub overflow_mul-weighted : goal.overflow_mul-weighted
-overflow_mul-weighted c = product-fits (used-cell (pair c)) c.signed.ensures
+overflow_mul-weighted c =
+    let t = turn c.loop-class.class c.requires.fact_2 c.loop-class-test.true c.loop-class.invariant.1.0 c.nearest_wh-rounded.ensures in
+    product-fits (used-cell t) c.signed.ensures
 
 pub overflow_add-weighted : goal.overflow_add-weighted
-overflow_add-weighted c = weighted-fits (used-cell (pair c)) c.signed.ensures (weighted-held (pair c))
-
-pub signed-requires-in-loop-class : goal.signed-requires-in-loop-class
-signed-requires-in-loop-class c = tt
+overflow_add-weighted c =
+    let t = turn c.loop-class.class c.requires.fact_2 c.loop-class-test.true c.loop-class.invariant.1.0 c.nearest_wh-rounded.ensures in
+    weighted-fits (used-cell t) c.signed.ensures (running-held c.loop-class.weighted-bits c.loop-class.invariant.1.1.1.0)
 
 pub overflow_mul-weighted-in-loop-class : goal.overflow_mul-weighted-in-loop-class
-overflow_mul-weighted-in-loop-class c = product-fits (lost-cell (pair c.before.before)) c.signed-in-loop-class.ensures
+overflow_mul-weighted-in-loop-class c =
+    let t = turn c.loop-class.class c.requires.fact_2 c.loop-class-test.true c.loop-class.invariant.1.0 c.nearest_wh-rounded.ensures in
+    product-fits (lost-cell t) c.signed-in-loop-class.ensures
 
 pub overflow_add-weighted-in-loop-class : goal.overflow_add-weighted-in-loop-class
-overflow_add-weighted-in-loop-class c = weighted-fits (lost-cell (pair c.before.before)) c.signed-in-loop-class.ensures (used-weighted c.before.before)
+overflow_add-weighted-in-loop-class c =
+    let t = turn c.loop-class.class c.requires.fact_2 c.loop-class-test.true c.loop-class.invariant.1.0 c.nearest_wh-rounded.ensures in
+    weighted-fits (lost-cell t) c.signed-in-loop-class.ensures
+    (next-weighted (used-cell t) c.signed.ensures (running-held c.loop-class.weighted-bits c.loop-class.invariant.1.1.1.0))
 
 pub loop-class-preserved : goal.loop-class-preserved
 loop-class-preserved c =
-    let d = c.before.before in
-    let p = pair d in
-    let two : class p + 1 + 1 ≡ class p + 2 = omega arith in (
+    let t = turn c.loop-class.class c.requires.fact_2 c.loop-class-test.true c.loop-class.invariant.1.0 c.nearest_wh-rounded.ensures in
+    let l = c.loop-class in
+    let i = l.class in
+    let two : i + 1 + 1 ≡ i + 2 = omega arith in
+    let used-weighted = next-weighted (used-cell t) c.signed.ensures (running-held l.weighted-bits l.invariant.1.1.1.0) in (
       omega arith,
       (
         omega arith,
         (
-          next-net (used-cell p) (lost-cell p) (net-held p) (even p) (directed-is d.before.before.before),
+          held-running (next-net (used-cell t) (lost-cell t) (running-held l.net-bits l.invariant.1.1.0) t.even (directed-is t c.by_direction-net.ensures)),
           (
-            rw two at (next-weighted (lost-cell p) c.signed-in-loop-class.ensures (used-weighted d)),
-            dropped-more p d.by_direction-droppings.ensures,
+            held-running (rw two at (next-weighted (lost-cell t) c.signed-in-loop-class.ensures used-weighted)),
+            held-running
+                (next-droppings _ _ t.args.cells-long (loss-inside t) t.even (running-held l.droppings-bits l.invariant.1.1.1.1) (dropped-is t) (signed_is t c.by_direction-droppings.ensures)),
           ),
         ),
       ),
@@ -260,5 +264,6 @@ loop-class-preserved c =
 
 pub returns : goal.returns
 returns c =
-    let i = c.loop-class.invariant.1.1 in
-    result _ _ c.loop-class.class _ _ _ c.requires.fact_2 (omega arith) i.0 i.1.0 i.1.1
+    let l = c.loop-class in
+    let i = l.invariant.1.1 in
+    result _ _ l.class l.net-bits l.weighted-bits l.droppings-bits c.requires.fact_2 c.loop-class-test.false i.0 i.1.0 i.1.1
