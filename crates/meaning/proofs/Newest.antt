@@ -1,6 +1,6 @@
 -- The reading of highest issue, the earlier of equals: with one more reading at the end, and as the earliest of its issue.
 use Prim.Native.Nat.{ℕ, ◌≤◌, ◌<◌}
-use mathlib.Core.Path.{◌≡◌, refl, sym, ◌∙◌, ap}
+use mathlib.Core.Path.{◌≡◌, refl, sym, ◌∙◌, ap, subst}
 use mathlib.Core.Bool.{true, false}
 use mathlib.Core.List.{List, [], ◌∷◌, ◌++◌}
 use native.Mathlib.Nat.{lt_trans, lt_irrefl, le_trans, le_refl, le_of_lt, le_antisymm}
@@ -102,10 +102,14 @@ newest-earliest (r ∷ readings) (entry ok each) =
     let kept = (reading-packed r ok.in-range).issue in
     by-issue word newest
     (λ h.
-    rw (later-higher word newest h)
+    let e : newest_reading (r ∷ readings) ≡ newest = later-higher word newest h in
+    subst (λ (n : ℕ). earliest_of (issue_of n) (r ∷ readings) ≡ n) (sym e)
     (earliest-next (issue_of newest) r readings (ne_eqb r.issue (issue_of newest) (λ q. lt_irrefl (issue_of newest) (rw (kept ∙ q) at h)))
     ∙ newest-earliest readings each))
-    (λ h. rw (earlier-kept word newest h) (earliest-here (issue_of word) r readings (eq-eqb r.issue (issue_of word) (sym kept))))
+    (λ h.
+    let e : newest_reading (r ∷ readings) ≡ word = earlier-kept word newest h in
+    subst (λ (n : ℕ). earliest_of (issue_of n) (r ∷ readings) ≡ n) (sym e)
+    (earliest-here (issue_of word) r readings (eq-eqb r.issue (issue_of word) (sym kept))))
 
 -- so readings with the same earliest reading of each issue have the same newest
 pub same-newest : (readings moved : List Reading) → Each InRange readings → Each InRange moved → ((issue : ℕ) → earliest_of issue readings ≡ earliest_of issue moved) → newest_reading readings ≡ newest_reading moved
