@@ -27,7 +27,5 @@ pub const TOLERANCE_EXCEEDED: u64 = 11;
 
 pub const TOTALS_SHORT: u64 = 12;
 
-pub const CELLS_SHORT: u64 = 13;
-
 // A calls slice that is no whole number of calls, or a numbers slice that is too short.
 pub const LIST_MISSHAPEN: u64 = 19;
