@@ -1,9 +1,6 @@
 -- `allocate` gives the outcome of the allocate call: a refusal of the book, or what its allocation leaves. Assumes nothing.
-use mathlib.Core.Path.{◌≡◌, sym, ◌∙◌, ap}
-use mathlib.Core.Bool.{true}
-use borrow.Author.Rules.{rules}
-use borrow.Author.Tests.{not-true, not-false}
-use Rattle.book.specs.Book.{Book, well_formed, lent}
+use mathlib.Core.Path.{sym, ◌∙◌, ap}
+use Rattle.book.specs.Book.{Book, lent}
 use Rattle.allocation.proofs.Ways.{allocate-on-ill-formed, allocate-keeps}
 use Rattle.allocation.proofs.allocate.allocate.Goals as goal
 

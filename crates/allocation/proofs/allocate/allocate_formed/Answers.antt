@@ -1,18 +1,11 @@
 -- `allocate_formed` leaves what the allocate call leaves on a well-formed book: one law for each way it ends, and the steps between them. Assumes nothing.
-use Prim.Native.Nat.{ℕ, ◌≤◌}
-use mathlib.Core.Path.{◌≡◌, refl, sym, ◌∙◌}
-use mathlib.Core.Bool.{true}
-use mathlib.Core.List.{List}
+use mathlib.Core.Path.{refl, sym, ◌∙◌}
 use borrow.Author.Rules.{rules}
 use borrow.Author.Tests.{eq-eqb, ne_eqb}
-use lib.ListN.{length}
 use mir.Syntax.{w64}
-use mir.Val.{of_z, to_z}
 use mir.ValLaws.{to_z-of_z}
-use Rattle.book.specs.declared.Settings.{Settings}
 use Rattle.book.specs.Limits.{take_flag_set}
-use Rattle.book.specs.Settings.{take_is_set}
-use Rattle.cells.specs.Cells.{count_from, units}
+use Rattle.cells.specs.Cells.{count_from}
 use Rattle.cells.specs.Helpers.{table_of}
 use Rattle.allocation.proofs.Steps.{gather-arguments, all-units-arguments, take-fits, correct-arguments, sums-worked, droppings-worked}
 use Rattle.allocation.proofs.Ways.{way-short, way-unset, way-lacks, way-corrected}

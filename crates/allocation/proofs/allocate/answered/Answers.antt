@@ -1,5 +1,4 @@
 -- `answered` meets its contract: beside a number other than 0 stand zeros, and else the four counts and the droppings. Assumes nothing.
-use borrow.Author.Rules.{rules}
 use borrow.Author.Tests.{eq-eqb, ne_eqb}
 use Rattle.allocation.specs.Helpers.{answered_with}
 use Rattle.allocation.proofs.allocate.answered.Goals as goal

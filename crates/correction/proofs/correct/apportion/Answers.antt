@@ -1,17 +1,15 @@
 -- `apportion` gives the volumes of the units: the shares rounded down, the Wh that lack, and those handed out. Assumes nothing.
-use Prim.Native.Nat.{ℕ, ◌≤◌}
+use Prim.Native.Nat.{ℕ}
 use mathlib.Core.Path.{◌≡◌, refl, sym, ◌∙◌, ap, ap₂, subst, subst₂}
 use mathlib.Core.List.{List}
 use native.Mathlib.Omega.{arith}
 use lib.ListN.{replicate}
-use borrow.Author.Rules.{rules}
 use lib.Dec.{T}
 use lib.IntN.{ℤ, pos, nat_abs, ◌-ℤ◌}
 use lib.Signed.{non_neg}
 use mir.Syntax.{w64}
 use mir.Val.{Fits, SFits, of_z, to_z}
 use mir.ValLaws.{to_z-of_z}
-use Rattle.correction.specs.declared.UnitSums.{UnitSums}
 use Rattle.correction.specs.Volumes.{lacking_wh, rounded_volumes}
 use Rattle.integers.specs.Sum.{sum}
 use Rattle.correction.specs.Helpers.{ShareDownArguments, SharedDown, HandOutArguments, ApportionArguments}

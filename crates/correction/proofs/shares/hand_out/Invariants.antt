@@ -1,22 +1,11 @@
 -- `hand_out` meets its contract. The units' loop keeps `HandedOut`. The inner loop's invariant: the units that come before are those counted Assumes nothing.
 -- and those among the units to come.
-use Prim.Native.Nat.{ℕ, suc, ◌+◌, ◌-◌, ◌≤◌, ◌<◌}
-use mathlib.Core.Path.{◌≡◌, refl, sym, ap, ◌∙◌}
-use mathlib.Core.Bool.{true, false}
+use Prim.Native.Nat.{ℕ, ◌+◌, ◌-◌, ◌≤◌}
+use mathlib.Core.Path.{◌≡◌}
 use mathlib.Core.List.{List}
-use mathlib.Core.Logic.{⊎_elim}
-use native.Mathlib.Omega.{arith}
-use native.Mathlib.Numerals.{add-one}
-use lib.IntN.{ℤ, pos}
-use lib.ListN.{length, get_or, drop, drop_of_length-le}
-use lib.Seq.{drop-cons}
-use mir.Syntax.{w64}
-use mir.Val.{of_z}
-use Rattle.integers.proofs.Fit.{Held, held, held-literal, plus-fits, plus-held}
-use Rattle.correction.specs.Volumes.{comes_before, count_before}
-use Rattle.correction.proofs.CountWhere.{bit}
-use Rattle.correction.proofs.Keys.{key-before, key-after}
-use Rattle.correction.proofs.HandedOut.{HandedOut, hand-none, hand-all, hand-last, hand-one, hand-no, some_left, entry-is}
+use lib.ListN.{get_or, drop}
+use Rattle.correction.specs.Volumes.{count_before}
+use Rattle.correction.proofs.HandedOut.{HandedOut}
 use Rattle.correction.proofs.shares.hand_out.Given as goal
 
 -- how many come before unit i: n of the units before unit j, and those of the others that do

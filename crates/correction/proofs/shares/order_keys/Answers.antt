@@ -1,13 +1,12 @@
-use Prim.Native.Nat.{ℕ, ◌+◌, ◌-◌, ◌≤◌, ◌<◌}
+use Prim.Native.Nat.{ℕ, ◌+◌, ◌<◌}
 use mathlib.Core.Path.{◌≡◌, ◌∙◌}
 use mathlib.Core.List.{List}
 use native.Mathlib.Omega.{arith}
 use borrow.Author.Tests.{eqb-true, eqb-false}
 use lib.Dec.{eqb}
-use lib.ListN.{length, get_or, set, length-set}
+use lib.ListN.{get_or, set, length-set}
 use lib.Seq.{get_or-set_same, get_or-set_other}
 use Rattle.words.proofs.Tests.{by-test}
-use Rattle.cells.specs.Cells.{units}
 use Rattle.correction.specs.Helpers.{order_key}
 use Rattle.correction.proofs.shares.order_keys.Invariants.{Keyed}
 use Rattle.correction.proofs.shares.order_keys.Goals as goal

@@ -1,13 +1,13 @@
-use Prim.Native.Nat.{ℕ, ◌+◌, ◌-◌, ◌≤◌, ◌<◌}
+use Prim.Native.Nat.{ℕ, ◌+◌, ◌≤◌, ◌<◌}
 use mathlib.Core.Path.{◌≡◌, sym, ◌∙◌}
 use mathlib.Core.List.{List}
 use native.Mathlib.Omega.{arith}
 use lib.IntN.{ℤ, pos, nat_abs, ◌+ℤ◌, ◌*ℤ◌}
 use lib.ListN.{length, get_or, set, length-set}
 use mir.Syntax.{w64}
-use mir.Val.{to_z, of_z, SFits}
+use mir.Val.{of_z, SFits}
 use mir.ValLaws.{to_z-of_z}
-use Rattle.integers.specs.Quotient.{floor_of, fraction_of, quotient_of}
+use Rattle.integers.specs.Quotient.{floor_of, fraction_of}
 use Rattle.integers.specs.Helpers.{ShareArguments}
 use Rattle.integers.proofs.Fit.{Held, fit, held, plus-fits, plus-held}
 use Rattle.integers.proofs.Size.{size-positive}
@@ -17,7 +17,7 @@ use Rattle.correction.specs.Correction.{share_floor, share_fraction}
 use Rattle.correction.specs.Outcome.{pairs_of}
 use Rattle.correction.specs.Helpers.{ShareDownArguments, SharedDown}
 use Rattle.correction.proofs.Apportioned.{share-split, fraction-split}
-use Rattle.correction.proofs.Filled.{Filled, filled_none, filled_next, filled-all}
+use Rattle.correction.proofs.Filled.{filled_none, filled_next, filled-all}
 use Rattle.correction.proofs.Pairs.{no_sums, pairs-at, pairs-length}
 use Rattle.correction.proofs.shares.share_down.Invariants.{Done}
 use Rattle.correction.proofs.shares.share_down.Goals as goal

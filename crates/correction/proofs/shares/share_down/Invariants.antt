@@ -1,25 +1,13 @@
 -- `share_down` meets its contract. The loop's invariant: the floors and fractions of the units passed are filled in. Assumes nothing.
-use Prim.Native.Nat.{ℕ, ◌+◌, ◌-◌, ◌≤◌, ◌<◌}
-use mathlib.Core.Path.{◌≡◌, sym, ◌∙◌}
+use Prim.Native.Nat.{ℕ, ◌-◌, ◌≤◌}
+use mathlib.Core.Path.{◌≡◌}
 use mathlib.Core.List.{List}
-use native.Mathlib.Omega.{arith}
-use lib.IntN.{ℤ, pos, nat_abs, ◌+ℤ◌, ◌*ℤ◌}
-use lib.ListN.{length, get_or, set, length-set}
-use mir.Syntax.{w64}
-use mir.Val.{to_z, of_z}
-use mir.ValLaws.{to_z-of_z}
-use Rattle.integers.specs.Quotient.{floor_of, fraction_of, quotient_of}
-use Rattle.integers.specs.Helpers.{ShareArguments}
-use Rattle.integers.proofs.Fit.{Held, fit, held, plus-fits, plus-held}
-use Rattle.integers.proofs.Size.{size-positive}
-use Rattle.integers.proofs.Floor.{quotient-most}
+use lib.IntN.{ℤ}
+use lib.ListN.{length}
 use Rattle.cells.specs.Cells.{units}
 use Rattle.correction.specs.Correction.{share_floor, share_fraction}
 use Rattle.correction.specs.Outcome.{pairs_of}
-use Rattle.correction.specs.Helpers.{ShareDownArguments, SharedDown}
-use Rattle.correction.proofs.Apportioned.{share-split, fraction-split}
-use Rattle.correction.proofs.Filled.{Filled, filled_none, filled_next, filled-all}
-use Rattle.correction.proofs.Pairs.{no_sums, pairs-at, pairs-length}
+use Rattle.correction.proofs.Filled.{Filled}
 use Rattle.correction.proofs.shares.share_down.Given as goal
 
 -- the floors and fractions of the first i units are filled in
