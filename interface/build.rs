@@ -1,4 +1,4 @@
-//! Links the proved library, which `rt staticlib settlement` writes to the repository's target/staticlib.
+//! Links the proved library, which `scripts/build library` writes to the repository's target/staticlib.
 
 use std::env;
 use std::path::PathBuf;
@@ -11,7 +11,7 @@ fn main() {
     let archive = folder.join("libsettlement.a");
     assert!(
         archive.exists(),
-        "{} is missing: run `rt staticlib settlement` in the repository first",
+        "{} is missing: run `scripts/build library` in the repository first",
         archive.display()
     );
     println!("cargo:rustc-link-search=native={}", folder.display());
