@@ -69,7 +69,7 @@
  * The library is for Linux on x86-64. From the root of the repository, rt writes an archive, and
  * gcc links it:
  *
- *     rt staticlib settlement
+ *     scripts/build library
  *     gcc -std=c99 -Iinclude -o target/settle_case_one \
  *         examples/settle_case_one.c target/staticlib/libsettlement.a
  *     target/settle_case_one

@@ -41,7 +41,7 @@ fn machine() -> String {
     let count = std::thread::available_parallelism().map_or(0, usize::from);
     format!(
         "Machine: {}, {count} processors. Rust: {}, `--release` with `opt-level = 3`, `lto` and one codegen unit. Library: `{}`, \
-         `rt staticlib settlement`. Both for any x86-64 processor.\n",
+         `scripts/build library`. Both for any x86-64 processor.\n",
         processor(),
         first_line("rustc", "--version"),
         first_line("rt", "version"),
