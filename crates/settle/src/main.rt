@@ -1,6 +1,8 @@
 // Settles one half hour: reads a period file from standard input and prints the volumes.
 #![tactic(auto)]
 
-fn main() {
-    settle_run::run();
+use std::io;
+
+fn main(rt: HostRuntime) -> io::Result<()> {
+    settle_run::run(&rt, &mut rt.stdin(), &mut rt.stdout())
 }

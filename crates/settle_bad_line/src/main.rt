@@ -1,6 +1,8 @@
 // `settle` on a file with a refused call and then a line out of form, a kind that stands too late.
 #![tactic(auto)]
 
-fn main() {
-    settle_run::run();
+use std::io;
+
+fn main(rt: HostRuntime) -> io::Result<()> {
+    settle_run::run(&rt, &mut rt.stdin(), &mut rt.stdout())
 }

@@ -1,6 +1,8 @@
 // `settle` on document 01's case 4, with a negative volume, and no end to the last line.
 #![tactic(auto)]
 
-fn main() {
-    settle_run::run();
+use std::io;
+
+fn main(rt: HostRuntime) -> io::Result<()> {
+    settle_run::run(&rt, &mut rt.stdin(), &mut rt.stdout())
 }

@@ -1,6 +1,8 @@
 // `settle` on a file with refused calls, whose allocation is refused too.
 #![tactic(auto)]
 
-fn main() {
-    settle_run::run();
+use std::io;
+
+fn main(rt: HostRuntime) -> io::Result<()> {
+    settle_run::run(&rt, &mut rt.stdin(), &mut rt.stdout())
 }

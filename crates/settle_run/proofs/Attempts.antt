@@ -1,13 +1,14 @@
 -- Attempts to read, one after the other.
-use Rattle.std.proofs.Common.{◌≡◌, ℕ, true, false, List, [], ◌∷◌, ◌++◌, sym, refl, ap, ◌∙◌, arith}
+use Rattle.std.proofs.Common.{◌≡◌, ℕ, ◌*◌, ◌≤◌, true, false, List, length, [], ◌∷◌, ◌++◌, sym, refl, ap, ◌∙◌, arith}
+use Rattle.report.proofs.Appending.{at_most}
 use Rattle.settle_run.specs.declared.State.{State}
 use Rattle.settle_run.specs.Program.{Work, Step, fresh_work, take_bytes, take_read, Attempt, gave, again, failed, take_attempt, take_attempts, attempts_text, given, all_went_on, ended, end_text, settle_text}
-use Rattle.settle_run.specs.Helpers.{held, Between, Turned, Read}
+use Rattle.settle_run.specs.Helpers.{held, Took, Between, Turned, Read}
 use Rattle.settle_run.proofs.Steps.{printed-nothing}
 use Rattle.settle_run.proofs.Bytes.{chunks}
 
 -- an attempt that gave nothing, after what waited was written
-pub nothing_read : (attempt : Attempt) {before s : State} {line rows out : List ℕ} → Between before line out
+abbrev pub nothing_read : (attempt : Attempt) {before s : State} {line rows out : List ℕ} → Between before line out
     → held s line rows ≡ (take_attempt (held before line rows) attempt).work → (take_attempt (held before line rows) attempt).text ≡ []
     → s.length ≡ before.length → s.used ≡ 0 → Turned before line rows out s line rows out
 nothing_read attempt {out = out} b work text same none =
@@ -16,6 +17,23 @@ nothing_read attempt {out = out} b work text same none =
       work = work;
       text = rw (text, none) (printed-nothing 51200 out 0 (omega arith));
       between = record { line-long = b.line-long; line-short = omega (arith, b.line-short); out-long = b.out-long; waiting = omega arith };
+    }
+
+-- an attempt that gave so many bytes
+abbrev pub bytes_read : (bytes : List ℕ) (n : ℕ) {before s : State} {line rows out line₂ rows₂ out₂ : List ℕ} → n ≤ 1024 → Between before line out
+    → length line₂ ≡ length line → length out₂ ≡ length out → Took (take_attempt (held before line rows) (gave bytes)) (50 * n) out 0 s line₂ rows₂ out₂
+    → Turned before line rows out s line₂ rows₂ out₂
+bytes_read bytes n h b line_same out_same taken =
+    record {
+      attempt = gave bytes;
+      work = taken.work;
+      text = at_most 51200 (omega arith) taken.text;
+      between = record {
+        line-long = omega (arith, b.line-long);
+        line-short = taken.line-short;
+        out-long = omega (arith, b.out-long);
+        waiting = omega (arith, taken.text.short);
+      };
     }
 
 -- one more at the end

@@ -5,3 +5,4 @@ pub mod Bytes
 pub mod Ends
 pub mod Example
 pub mod Attempts
+pub mod Streams

@@ -1,29 +1,45 @@
-// Reads of standard input, of any size.
+// Reads of the input, of any size.
+ghost use Rattle.std.specs.Prelude.{◌≡◌, IfOk, IfErr, OnErr, take};
+ghost use Rattle.std.specs.Io.KnownBytes.{Keeps};
 ghost use Rattle.settle_run.specs.Helpers.{Between, Turned};
+ghost use Rattle.settle_run.specs.Streams.{AppendsSome, Passes, TurnedOver};
 
 use crate::State;
 use crate::lines::take_read;
 use crate::output::{flush, will_pass};
-use libc::STDIN_FILENO;
+use std::io;
+use std::io::{Read, Write};
+use std::time::Clock;
 
-// One read, after what waits was written. At the end of the input, and where reading fails, the phase changes.
-pub fn turn(state: State, line: &mut [u8], rows: &mut [u64], out: &mut [u8]) -> State
+// One read, after what waits was written. At the end of the input the phase changes.
+pub fn turn<R: Read, W: Write>(
+    clock: &impl Clock,
+    reader: &mut R,
+    writer: &mut W,
+    state: State,
+    line: &mut [u8],
+    rows: &mut [u64],
+    out: &mut [u8],
+) -> io::Result<State>
     requires { Between state line.old out.old }
-    ensures { Turned state line.old rows.old out.old result line.new rows.new out.new }
+    ensures ok { IfOk result (λ s. Turned state line.old rows.old out.old s line.new rows.new out.new) }
+    ensures streams { IfOk result (λ s. TurnedOver state line.old rows.old out.old s line.new rows.new out.new (R.remaining reader.old) (R.remaining reader.new) (W.contents writer.old) (W.contents writer.new)) }
+    ensures lasting { IfErr result (λ e. ¬ Passes e) }
+    ensures err { OnErr result ((line.new ≡ line.old) × (rows.new ≡ rows.old) × (out.new ≡ out.old)) }
+    ensures begun { OnErr result (AppendsSome (W.contents writer.old) (W.contents writer.new) (take state.used out.old) × Keeps (R.remaining reader.old) (R.remaining reader.new)) }
 {
-    flush(out, state.used);
+    flush(clock, writer, out, state.used)?;
     let mut next = state;
     next.used = 0;
     let mut chunk = [0u8; 1_024];
-    let got = libc::read(STDIN_FILENO, &mut chunk);
-    if got < 0 {
-        if will_pass(os::errno()) {
-            return next;
+    match reader.read(&mut chunk) {
+        Ok(n) => Ok(take_read(next, &chunk, n, line, rows, out)),
+        Err(e) => {
+            if will_pass(clock, e) {
+                Ok(next)
+            } else {
+                Err(e)
+            }
         }
-        os::fail(b"standard input");
-        next.phase = crate::STOPPED;
-        return next;
     }
-    let n = io::count(got, &chunk);
-    take_read(next, &chunk, n, line, rows, out)
 }

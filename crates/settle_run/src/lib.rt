@@ -6,10 +6,17 @@ mod input;
 mod lines;
 mod output;
 
+ghost use Rattle.std.specs.Prelude.{IfOk, OnOk, IfErr, OnErr, IfSome, replicate};
+ghost use Rattle.std.specs.Io.KnownBytes.{Appends};
+ghost use Rattle.settle_run.specs.Program.{settle_text};
 ghost use Rattle.settle_run.specs.Helpers.{Fresh, Between, Read};
+ghost use Rattle.settle_run.specs.Streams.{AppendsSome, Passes, ReadOver, BrokenOff};
 
 use book::Settings;
 use period_file::lines::LINE_MAX;
+use std::io;
+use std::io::{Read, Write};
+use std::time::Clock;
 
 // The words of 512 meters.
 const ROW_WORDS: usize = 1_536;
@@ -53,29 +60,51 @@ fn fresh_state() -> State
 }
 
 // Reads to the end of the input, or to a line out of form. A proved loop has to end, and nothing says that the input does: so
-// it counts its turns down, from a number that no run uses up.
-fn read_all(state: State, line: &mut [u8], rows: &mut [u64], out: &mut [u8]) -> State
+// it counts its turns, up to a number that no run reaches.
+fn read_all<R: Read, W: Write>(
+    clock: &impl Clock,
+    reader: &mut R,
+    writer: &mut W,
+    state: State,
+    line: &mut [u8],
+    rows: &mut [u64],
+    out: &mut [u8],
+) -> io::Result<State>
     requires { Between state line.old out.old }
-    ensures { Read state line.old rows.old result line.new rows.new out.new }
+    ensures ok { IfOk result (λ s. Read state line.old rows.old s line.new rows.new out.new) }
+    ensures streams { IfOk result (λ s. ReadOver state line.old rows.old out.old s line.new rows.new out.new (R.remaining reader.old) (R.remaining reader.new) (W.contents writer.old) (W.contents writer.new)) }
+    ensures lasting { IfErr result (λ e. ¬ Passes e) }
+    ensures err { OnErr result ((s : State) × Read state line.old rows.old s line.new rows.new out.new) }
+    ensures begun { OnErr result (BrokenOff state line.old rows.old out.old (R.remaining reader.old) (R.remaining reader.new) (W.contents writer.old) (W.contents writer.new)) }
 {
     let mut now = state;
-    let mut turns = u64::MAX;
-    while 0 < turns {
+    for _ in 0..u64::MAX {
         if now.phase != READING {
-            return now;
+            return Ok(now);
         }
-        now = input::turn(now, line, rows, out);
-        turns -= 1;
+        now = input::turn(clock, reader, writer, now, line, rows, out)?;
     }
-    now
+    Err(output::out_of_turns())
 }
 
-// Reads standard input and prints to standard output.
-pub fn run() {
+// Reads a period file and prints what comes of it.
+pub fn run<R: Read, W: Write>(clock: &impl Clock, reader: &mut R, writer: &mut W) -> io::Result<()>
+    ensures ok { OnOk result (IfSome (R.remaining reader.old) (λ input. Appends (W.contents writer.old) (W.contents writer.new) (settle_text (replicate ROW_WORDS 0) input))) }
+    ensures lasting { IfErr result (λ e. ¬ Passes e) }
+    ensures err { OnErr result (IfSome (R.remaining reader.old) (λ input. AppendsSome (W.contents writer.old) (W.contents writer.new) (settle_text (replicate ROW_WORDS 0) input))) }
+{
     let mut rows = [0u64; ROW_WORDS];
     let mut line = [0u8; LINE_MAX];
     let mut out = [0u8; OUT_BYTES];
-    let read = read_all(fresh_state(), &mut line, &mut rows, &mut out);
+    let read = read_all(
+        clock,
+        reader,
+        writer,
+        fresh_state(),
+        &mut line,
+        &mut rows,
+        &mut out,
+    )?;
     let used = lines::finish(read, &line, &mut rows, &mut out);
-    output::flush(&out, used);
+    output::flush(clock, writer, &out, used)
 }

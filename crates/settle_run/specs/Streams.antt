@@ -1,0 +1,52 @@
+-- What the program does with the bytes that its reader has left and its writer holds, where those are known.
+use Rattle.std.specs.Prelude.{◌≡◌, ◌≢◌, ◌⊎◌, ℕ, Option, List, [], ◌++◌, take}
+use Rattle.std.specs.IoError.{error_kind}
+use Rattle.std.specs.declared.io.Error.{Error}
+use Rattle.std.specs.declared.io.ErrorKind.TheVariants.{Interrupted, WouldBlock}
+use Rattle.std.specs.Io.KnownBytes.{Appends, Consumes, IsAtEnd}
+use Rattle.settle_run.specs.declared.State.{State}
+use Rattle.settle_run.specs.Program.{Attempt, gave, again, failed, reading, take_bytes, ended}
+use Rattle.settle_run.specs.Helpers.{held, Turned}
+
+-- a failure after which a call may be made again: a signal came, or a pipe that does not wait is full or empty for now
+abbrev pub Passes : Error → Type 0
+Passes e = (error_kind e ≡ Interrupted) ⊎ (error_kind e ≡ WouldBlock)
+
+-- the bytes that an attempt gave
+abbrev pub given_by : Attempt → List ℕ
+given_by (gave bytes) = bytes
+given_by again = []
+given_by failed = []
+
+-- a beginning of the bytes was appended
+pub record AppendsSome (written written₂ : Option (List ℕ)) (bytes : List ℕ) : Type 0 where
+  pub part : List ℕ
+  pub rest : List ℕ
+  pub front : bytes ≡ part ++ rest
+  pub appended : Appends written written₂ part
+
+-- what one turn leaves: what waited was written, the attempt did not fail, the reader lost the bytes that it gave, and one that gave
+-- none was at the end
+pub record TurnedOver (before : State) (line rows out : List ℕ) (s : State) (line₂ rows₂ out₂ : List ℕ) (left left₂ written written₂ : Option (List ℕ)) : Type 0 where
+  pub turned : Turned before line rows out s line₂ rows₂ out₂
+  pub went_on : turned.attempt ≢ failed
+  pub consumed : Consumes left left₂ (given_by turned.attempt)
+  pub at_end : turned.attempt ≡ gave [] → IsAtEnd left₂
+  pub appended : Appends written written₂ (take before.used out)
+
+-- what all turns leave: the reader lost some bytes, the state is that of these bytes, what they print was written or waits, and
+-- nothing is left to read unless a line out of form came
+pub record ReadOver (before : State) (line rows out : List ℕ) (s : State) (line₂ rows₂ out₂ : List ℕ) (left left₂ written written₂ : Option (List ℕ)) : Type 0 where
+  pub bytes : List ℕ
+  pub consumed : Consumes left left₂ bytes
+  pub at_end : (take_bytes (held before line rows) bytes).work.phase ≡ reading → IsAtEnd left₂
+  pub work : held s line₂ rows₂ ≡ ended (take_bytes (held before line rows) bytes).work
+  pub text : List ℕ
+  pub appended : Appends written written₂ text
+  pub printed : text ++ take s.used out₂ ≡ take before.used out ++ (take_bytes (held before line rows) bytes).text
+
+-- what turns leave that a failure broke off: the reader lost some bytes, and a beginning of what they print was written
+pub record BrokenOff (before : State) (line rows out : List ℕ) (left left₂ written written₂ : Option (List ℕ)) : Type 0 where
+  pub bytes : List ℕ
+  pub consumed : Consumes left left₂ bytes
+  pub begun : AppendsSome written written₂ (take before.used out ++ (take_bytes (held before line rows) bytes).text)
