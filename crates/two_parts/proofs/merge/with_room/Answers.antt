@@ -1,6 +1,6 @@
 -- `with_room` leaves the parts where the second has room, and else merges them: then all rows are the first part's. Assumes nothing.
 use Prim.Native.Nat.{ℕ, ◌+◌, ◌-◌, ◌≤◌}
-use mathlib.Core.Path.{◌≡◌, ◌∙◌}
+use mathlib.Core.Path.{◌≡◌, refl, ◌∙◌}
 use mathlib.Core.List.{List}
 use native.Mathlib.Omega.{arith}
 use Rattle.book.specs.Helpers.{RowsReady}
@@ -21,6 +21,11 @@ merged-room first meters words words' h ready e =
       same = rw none (as-one-none meters words' (room words' meters rows.within-capacity) ∙ e);
       room = omega arith;
     }
+
+-- the check finds this one itself; written out, the number of rows decides it
+pub returns-then-meters-first-lt-LATER_MAX : goal.returns-then-meters-first-lt-LATER_MAX
+returns-then-meters-first-lt-LATER_MAX c =
+    record { within = c.requires.fact_1; ready = c.requires.fact_3; same = refl; room = omega arith }
 
 pub returns : goal.returns
 returns c = merged-room _ _ _ _ c.requires.fact_1 c.requires.fact_3 c.merge_parts.ensures
