@@ -66,7 +66,7 @@
  *
  * LINKING
  *
- * The library is for Linux on x86-64. From the root of the repository, rt writes an archive, and
+ * The library is for Linux on x86-64. From the root of the repository, this makes an archive, and
  * gcc links it:
  *
  *     scripts/build library
