@@ -1,7 +1,7 @@
 -- Storing in the later rows alone, lent as a slice of their own, is storing in the whole.
 use Prim.Native.Nat.{ℕ, zero, suc, ◌+◌, ◌-◌, ◌*◌, ◌≤◌}
 use mathlib.Core.Path.{◌≡◌, refl, sym, ◌∙◌, ap}
-use mathlib.Core.Bool.{Bool, true, false}
+use mathlib.Core.Bool.{true, false}
 use mathlib.Core.List.{List}
 use native.Mathlib.Omega.{arith}
 use borrow.Rule.Slice.PartMut.{mid_of, put_same}
@@ -23,10 +23,6 @@ use Rattle.two_parts.proofs.StoredApart.{tail_written, whole, refused-apart, acc
 pub later-count : (first later : ℕ) (words : List ℕ) → length (later_rows first later words) ≡ later
 unfolding later_rows
 later-count first later words = length-rows later (drop (3 * first) words)
-
--- what a search in rows found is what is so
-pub known_is : (m : ℕ) (rows : List Row) {place : Place} {found : Bool} → place ≡ place_in m rows → place.known ≡ found → is_known m rows ≡ found
-known_is m rows e f = sym (ap (λ (p : Place). p.known) e) ∙ f
 
 -- the rows up to the capacity end within the slice
 pub end-within : {cap : ℕ} (words : List ℕ) → cap ≡ capacity words → 3 * cap ≤ length words

@@ -25,7 +25,7 @@ returns-then-not-place c =
     (reading-of-unknown-meter _ _ _
     (sym c.reading_in_range.ensures ∙ c.if-not-reading_in_range.false)
     (sym c.allowed.ensures ∙ c.if-not-allowed.false)
-    (known-is _ c.requires.fact_1 c.requires.fact_2 (not-true _ c.if-not-place.true)))
+    (known-is _ _ c.requires.fact_2 (not-true _ c.if-not-place.true)))
 
 pub overflow_mul-at : goal.overflow_mul-at
 overflow_mul-at c = omega (arith, row-within _ c.requires.fact_1 c.requires.fact_2 (not-false _ c.if-not-place.false), c.well_formed)
@@ -60,10 +60,10 @@ offset_bounds-rows-at-3 c = omega (arith, row-within _ c.requires.fact_1 c.requi
 pub returns-then-reading-issue : goal.returns-then-reading-issue
 returns-then-reading-issue c =
     keeps c.requires.fact_1 c.not_stored-then-reading-issue.ensures
-    (not-above _ c.requires.fact_1 (index-is _ c.requires.fact_1 c.requires.fact_2) _
+    (not-above _ c.requires.fact_1 (index-is _ _ c.requires.fact_2) _
     (sym c.reading_in_range.ensures ∙ c.if-not-reading_in_range.false)
     (sym c.allowed.ensures ∙ c.if-not-allowed.false)
-    (known-is _ c.requires.fact_1 c.requires.fact_2 (not-false _ c.if-not-place.false))
+    (known-is _ _ c.requires.fact_2 (not-false _ c.if-not-place.false))
     (omega (arith, c.issue.ensures, c.if-reading-issue.true)))
 
 pub pack-word-requires : goal.pack-word-requires
@@ -71,9 +71,9 @@ pack-word-requires c = (simp and-eq-true_iff at (sym c.reading_in_range.ensures 
 
 pub returns : goal.returns
 returns c =
-    reading-stored _ c.requires.fact_1 (index-is _ c.requires.fact_1 c.requires.fact_2) _
+    reading-stored _ c.requires.fact_1 (index-is _ _ c.requires.fact_2) _
     (sym c.reading_in_range.ensures ∙ c.if-not-reading_in_range.false)
     (sym c.allowed.ensures ∙ c.if-not-allowed.false)
-    (known-is _ c.requires.fact_1 c.requires.fact_2 (not-false _ c.if-not-place.false))
+    (known-is _ _ c.requires.fact_2 (not-false _ c.if-not-place.false))
     c.pack-word.ensures
     (omega (arith, c.issue.ensures, c.if-reading-issue.false))

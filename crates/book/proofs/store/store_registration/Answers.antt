@@ -47,13 +47,13 @@ bounds-rows-at-then-place-2 c = omega (arith, row-within _ c.requires.fact_1 c.r
 
 pub returns-then-place : goal.returns-then-place
 returns-then-place c =
-    registration-stored _ c.requires.fact_1 (index-is _ c.requires.fact_1 c.requires.fact_2) _ (not-false _ c.if-not-asked.false)
-    (known-is _ c.requires.fact_1 c.requires.fact_2 c.if-place.true)
+    registration-stored _ c.requires.fact_1 (index-is _ _ c.requires.fact_2) _ (not-false _ c.if-not-asked.false)
+    (known-is _ _ c.requires.fact_2 c.if-place.true)
 
 pub returns-then-row_capacity-meters : goal.returns-then-row_capacity-meters
 returns-then-row_capacity-meters c =
     keeps c.requires.fact_1 c.not_stored-then-row_capacity-meters.ensures
-    (registration-no-room _ _ _ _ (not-false _ c.if-not-asked.false) (known-is _ c.requires.fact_1 c.requires.fact_2 c.if-place.false)
+    (registration-no-room _ _ _ _ (not-false _ c.if-not-asked.false) (known-is _ _ c.requires.fact_2 c.if-place.false)
     (omega (arith, length-rows c.args.meters c.args.rows.now, c.row_capacity.ensures, c.if-row_capacity-meters.true)))
 
 pub offset_bounds-rows-at-2 : goal.offset_bounds-rows-at-2
@@ -77,8 +77,8 @@ insert_row-requires c =
 
 pub returns : goal.returns
 returns c =
-    let index = index-is _ c.requires.fact_1 c.requires.fact_2 in
+    let index = index-is _ _ c.requires.fact_2 in
     rw c.nothing_held.ensures
-    (row-inserted _ c.requires.fact_1 index _ (not-false _ c.if-not-asked.false) (known-is _ c.requires.fact_1 c.requires.fact_2 c.if-place.false)
+    (row-inserted _ c.requires.fact_1 index _ (not-false _ c.if-not-asked.false) (known-is _ _ c.requires.fact_2 c.if-place.false)
     (omega (arith, c.row_capacity.ensures, c.if-row_capacity-meters.false))
     (inserted-words c.args.meters c.args.mpan c.args.rows.now index refl c.insert_row.ensures))

@@ -2,7 +2,8 @@
 use native.Mathlib.Omega.{arith}
 use Rattle.book.proofs.Storing.{asked-stores}
 use Rattle.two_parts.proofs.AsOne.{both-fit}
-use Rattle.two_parts.proofs.LaterStored.{known_is, end-within, lent-place}
+use Rattle.book.proofs.Placed.{known-is}
+use Rattle.two_parts.proofs.LaterStored.{end-within, lent-place}
 use Rattle.two_parts.proofs.RegisteredApart.{registered-there, registered-apart}
 use Rattle.two_parts.proofs.store.register_apart.Goals as goal
 
@@ -16,7 +17,7 @@ find-place-requires c =
 pub returns-then-place : goal.returns-then-place
 returns-then-place c =
     rw c.stored_first.ensures
-    (registered-there _ _ _ c.requires _ _ (known_is _ _ c.find-place.ensures c.if-place.true) (asked-stores _ _ _ c.registration_asked-asked.ensures c.store_registration-stored.ensures))
+    (registered-there _ _ _ c.requires _ _ (known-is _ _ c.find-place.ensures c.if-place.true) (asked-stores _ _ _ c.registration_asked-asked.ensures c.store_registration-stored.ensures))
 
 pub overflow_mul-start : goal.overflow_mul-start
 overflow_mul-start c = omega (arith, both-fit c.requires, c.well_formed)
@@ -37,4 +38,4 @@ store_registration-requires c =
 
 pub returns : goal.returns
 returns c =
-    registered-apart _ _ _ c.requires _ _ (known_is _ _ c.find-place.ensures c.if-place.false) c.row_capacity-end.ensures (asked-stores _ _ _ c.registration_asked-asked.ensures c.store_registration.ensures)
+    registered-apart _ _ _ c.requires _ _ (known-is _ _ c.find-place.ensures c.if-place.false) c.row_capacity-end.ensures (asked-stores _ _ _ c.registration_asked-asked.ensures c.store_registration.ensures)
