@@ -132,6 +132,13 @@ estimate-number estimated_reading = refl
 estimate-number shape_default = refl
 estimate-number no_energy = refl
 
+-- e as the code decides it, by its test of the source
+pub estimate-zero : (from : ℕ) {e : ℕ} → e ≡ 0 → from ≡ 0 → e ≡ estimate_of from
+estimate-zero from z s = z ∙ rw (eq-eqb from 0 s)
+
+pub estimate-one : (from : ℕ) {e : ℕ} → e ≡ 1 → (from ≡ 0 → ⊥) → e ≡ estimate_of from
+estimate-one from z s = z ∙ rw (ne_eqb from 0 s)
+
 pub estimate-few : (from : ℕ) → estimate_of from ≤ 1
 estimate-few from = by (eqb from 0)
   where

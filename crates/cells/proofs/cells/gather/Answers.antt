@@ -3,7 +3,6 @@ use mathlib.Core.Path.{◌≡◌, refl, sym, ◌∙◌}
 use mathlib.Core.Bool.{Bool, false, ◌||◌}
 use mathlib.Core.List.{List}
 use native.Mathlib.Omega.{arith}
-use borrow.Author.Tests.{eq-eqb, ne_eqb}
 use lib.IntN.{ℤ, pos, nat_abs, ◌-ℤ◌, ◌*ℤ◌}
 use lib.ListN.{get_or, set}
 use Rattle.integers.specs.Sum.{sum}
@@ -20,7 +19,7 @@ use Rattle.cells.proofs.Tables.{entry_of, TableSized, table-entry, table-sized}
 use Rattle.cells.proofs.Each.{Each, each_at, each_take}
 use Rattle.cells.proofs.RowBounds.{RowBounds, rows-bounds}
 use Rattle.cells.proofs.CellBounds.{raw-cell-most}
-use Rattle.cells.proofs.OneMore.{rows_more, table_more, lacks-more, counts-stored, number_bound, count-bound, estimate-number, estimate-few}
+use Rattle.cells.proofs.OneMore.{rows_more, table_more, lacks-more, counts-stored, number_bound, count-bound, estimate-number, estimate-few, estimate-zero, estimate-one}
 use Rattle.cells.proofs.cells.gather.Goals as goal
 use Rattle.cells.proofs.cells.gather.Goals.{then-meter-eq-ACTUAL, else-meter-eq-ACTUAL}
 
@@ -98,13 +97,6 @@ module _ (words : List ℕ) (n : ℕ) (shapes : List ℕ) {start : List (List �
         lacks-is = rw (b, got.lacks-is) (sym (lacks-more shapes (rows_of i words) this));
       })
 
--- e, whichever way the test of the source went
-then-zero : (source : ℕ) {e : ℕ} → e ≡ 0 → source ≡ 0 → e ≡ estimate_of source
-then-zero source z s = z ∙ rw (eq-eqb source 0 s)
-
-else-one : (source : ℕ) {e : ℕ} → e ≡ 1 → (source ≡ 0 → ⊥) → e ≡ estimate_of source
-else-one source z s = z ∙ rw (ne_eqb source 0 s)
-
 pub loop-i-init : goal.loop-i-init
 loop-i-init c = (omega arith, none-gathered _ _ _ _ _ c.requires)
 
@@ -112,8 +104,8 @@ pub class-at-requires : goal.class-at-requires
 class-at-requires c =
     let e : c.if-meter-eq-ACTUAL.e ≡ estimate_of c.use_of-meter.result.source =
     elim c.if-meter-eq-ACTUAL.branch [
-      | then-meter-eq-ACTUAL w ↦ then-zero _ w.e-is w.if-meter-eq-ACTUAL.true
-      | else-meter-eq-ACTUAL w ↦ else-one _ w.e-is w.if-meter-eq-ACTUAL.false
+      | then-meter-eq-ACTUAL w ↦ estimate-zero _ w.e-is w.if-meter-eq-ACTUAL.true
+      | else-meter-eq-ACTUAL w ↦ estimate-one _ w.e-is w.if-meter-eq-ACTUAL.false
     ]
     in
     rw e (estimate-few c.use_of-meter.result.source)
@@ -122,8 +114,8 @@ pub add_meter-requires : goal.add_meter-requires
 add_meter-requires c =
     let e : c.if-meter-eq-ACTUAL.e ≡ estimate_of c.use_of-meter.result.source =
     elim c.if-meter-eq-ACTUAL.branch [
-      | then-meter-eq-ACTUAL w ↦ then-zero _ w.e-is w.if-meter-eq-ACTUAL.true
-      | else-meter-eq-ACTUAL w ↦ else-one _ w.e-is w.if-meter-eq-ACTUAL.false
+      | then-meter-eq-ACTUAL w ↦ estimate-zero _ w.e-is w.if-meter-eq-ACTUAL.true
+      | else-meter-eq-ACTUAL w ↦ estimate-one _ w.e-is w.if-meter-eq-ACTUAL.false
     ]
     in
     turn-asks _ _ _ c.requires _ c.loop-i-test.true c.loop-i.invariant.1
@@ -148,8 +140,8 @@ pub loop-i-preserved : goal.loop-i-preserved
 loop-i-preserved c =
     let e : c.if-meter-eq-ACTUAL.e ≡ estimate_of c.use_of-meter.result.source =
     elim c.if-meter-eq-ACTUAL.branch [
-      | then-meter-eq-ACTUAL w ↦ then-zero _ w.e-is w.if-meter-eq-ACTUAL.true
-      | else-meter-eq-ACTUAL w ↦ else-one _ w.e-is w.if-meter-eq-ACTUAL.false
+      | then-meter-eq-ACTUAL w ↦ estimate-zero _ w.e-is w.if-meter-eq-ACTUAL.true
+      | else-meter-eq-ACTUAL w ↦ estimate-one _ w.e-is w.if-meter-eq-ACTUAL.false
     ]
     in (
       omega arith,

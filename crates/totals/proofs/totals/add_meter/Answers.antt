@@ -10,7 +10,7 @@ use Rattle.words.specs.Registration.{status_of, tariff_of}
 use Rattle.cells.specs.declared.Use.{Use}
 use Rattle.totals.specs.Totals.{totals_words}
 use Rattle.cells.specs.Helpers.{estimate_of}
-use Rattle.cells.proofs.OneMore.{estimate-few}
+use Rattle.cells.proofs.OneMore.{estimate-few, estimate-zero, estimate-one}
 use Rattle.totals.specs.Helpers.{increased, count_word, with_meter, AddArguments}
 use Rattle.totals.proofs.OneMore.{count-word-bound}
 use Rattle.totals.proofs.totals.add_meter.Goals as goal
@@ -39,13 +39,7 @@ module _ (totals : List ℕ) (registration : ℕ) (used : Use) (ok : AddArgument
   unfolding with_meter
   both-added busy s t = t ∙ rw (s, f, e, d, ne_eqb used.source 3 busy)
 
--- the two words, whichever way the tests went
-energy-zero : (source : ℕ) {energy : ℕ} → energy ≡ 0 → source ≡ 0 → energy ≡ estimate_of source
-energy-zero source z s = z ∙ rw (eq-eqb source 0 s)
-
-energy-one : (source : ℕ) {energy : ℕ} → energy ≡ 1 → (source ≡ 0 → ⊥) → energy ≡ estimate_of source
-energy-one source z s = z ∙ rw (ne_eqb source 0 s)
-
+-- the word that counts, whichever way the test went
 count-two : (registration : ℕ) {status count : ℕ} → count ≡ 2 → status ≡ status_of registration → status ≡ 2 → count ≡ count_word registration
 count-two registration z e s = z ∙ rw (eq-eqb (status_of registration) 2 (sym e ∙ s))
 
@@ -60,8 +54,8 @@ pub overflow_add-first : goal.overflow_add-first
 overflow_add-first c =
     let e : c.if-meter-eq-ACTUAL.energy ≡ estimate_of c.args.meter.source =
     elim c.if-meter-eq-ACTUAL.branch [
-      | then-meter-eq-ACTUAL w ↦ energy-zero _ w.energy-is w.if-meter-eq-ACTUAL.true
-      | else-meter-eq-ACTUAL w ↦ energy-one _ w.energy-is w.if-meter-eq-ACTUAL.false
+      | then-meter-eq-ACTUAL w ↦ estimate-zero _ w.energy-is w.if-meter-eq-ACTUAL.true
+      | else-meter-eq-ACTUAL w ↦ estimate-one _ w.energy-is w.if-meter-eq-ACTUAL.false
     ]
     in
     let d : c.if-status-eq-ENERGISED.count ≡ count_word c.args.registration =
@@ -76,8 +70,8 @@ pub add-requires : goal.add-requires
 add-requires c =
     let e : c.if-meter-eq-ACTUAL.energy ≡ estimate_of c.args.meter.source =
     elim c.if-meter-eq-ACTUAL.branch [
-      | then-meter-eq-ACTUAL w ↦ energy-zero _ w.energy-is w.if-meter-eq-ACTUAL.true
-      | else-meter-eq-ACTUAL w ↦ energy-one _ w.energy-is w.if-meter-eq-ACTUAL.false
+      | then-meter-eq-ACTUAL w ↦ estimate-zero _ w.energy-is w.if-meter-eq-ACTUAL.true
+      | else-meter-eq-ACTUAL w ↦ estimate-one _ w.energy-is w.if-meter-eq-ACTUAL.false
     ]
     in
     let d : c.if-status-eq-ENERGISED.count ≡ count_word c.args.registration =
@@ -92,8 +86,8 @@ pub overflow_add-first-2 : goal.overflow_add-first-2
 overflow_add-first-2 c =
     let e : c.if-meter-eq-ACTUAL.energy ≡ estimate_of c.args.meter.source =
     elim c.if-meter-eq-ACTUAL.branch [
-      | then-meter-eq-ACTUAL w ↦ energy-zero _ w.energy-is w.if-meter-eq-ACTUAL.true
-      | else-meter-eq-ACTUAL w ↦ energy-one _ w.energy-is w.if-meter-eq-ACTUAL.false
+      | then-meter-eq-ACTUAL w ↦ estimate-zero _ w.energy-is w.if-meter-eq-ACTUAL.true
+      | else-meter-eq-ACTUAL w ↦ estimate-one _ w.energy-is w.if-meter-eq-ACTUAL.false
     ]
     in
     let d : c.if-status-eq-ENERGISED.count ≡ count_word c.args.registration =
@@ -108,8 +102,8 @@ pub add-requires-2 : goal.add-requires-2
 add-requires-2 c =
     let e : c.if-meter-eq-ACTUAL.energy ≡ estimate_of c.args.meter.source =
     elim c.if-meter-eq-ACTUAL.branch [
-      | then-meter-eq-ACTUAL w ↦ energy-zero _ w.energy-is w.if-meter-eq-ACTUAL.true
-      | else-meter-eq-ACTUAL w ↦ energy-one _ w.energy-is w.if-meter-eq-ACTUAL.false
+      | then-meter-eq-ACTUAL w ↦ estimate-zero _ w.energy-is w.if-meter-eq-ACTUAL.true
+      | else-meter-eq-ACTUAL w ↦ estimate-one _ w.energy-is w.if-meter-eq-ACTUAL.false
     ]
     in
     let d : c.if-status-eq-ENERGISED.count ≡ count_word c.args.registration =
@@ -124,8 +118,8 @@ pub returns : goal.returns
 returns c =
     let e : c.if-meter-eq-ACTUAL.energy ≡ estimate_of c.args.meter.source =
     elim c.if-meter-eq-ACTUAL.branch [
-      | then-meter-eq-ACTUAL w ↦ energy-zero _ w.energy-is w.if-meter-eq-ACTUAL.true
-      | else-meter-eq-ACTUAL w ↦ energy-one _ w.energy-is w.if-meter-eq-ACTUAL.false
+      | then-meter-eq-ACTUAL w ↦ estimate-zero _ w.energy-is w.if-meter-eq-ACTUAL.true
+      | else-meter-eq-ACTUAL w ↦ estimate-one _ w.energy-is w.if-meter-eq-ACTUAL.false
     ]
     in
     let d : c.if-status-eq-ENERGISED.count ≡ count_word c.args.registration =
