@@ -2,12 +2,13 @@
 """places: where the source has a form that today's Rattle has a plainer one for, point by point (docs/DESIGN-PASS.md).
 
 `python3 tools/places.py [POINT ..] [--list]` at the top counts the places in crates/*/src, crate by crate, and with --list
-prints them. It goes by text: a place is one to look at, and one that stays has its reason beside it, in a line `// Kept: `.
+prints them. It goes by text: a place is one to look at, and one that stays has its reason beside it, in a line `// Kept: `, in its
+function, at most sixteen lines above it, or at the head of its file. Those without are marked `no reason`.
 
 1  fields that are a flag or a number beside a value, sets of numbers for kinds, states or refusals, enums of the shape of Option,
    and functions that answer or take such a number
 2  functions whose bodies are the same but for names, types and numbers
-3  `while` loops
+3  `while` loops, and `for` loops over the numbers below one
 4  casts by `as`, and functions that compare, convert or print by hand
 5  parameters that stand together in three functions or more, and facts that three contracts or more ask for
 6  a slice with a number beside it that counts in it, two arrays of one type in one function, a search by hand
@@ -72,6 +73,19 @@ KINDS = r'(ACCEPTED|BOOK_ILL_FORMED|ARGUMENT_OUT_OF_RANGE|QUALITY_REFUSED|METER_
         r'SHAPE_OF_DEFAULT_MISSING|WEIGHTED_BELOW_ONE|TOLERANCE_EXCEEDED|TOTALS_SHORT|LIST_MISSHAPEN|KIND_\w+|ACTUAL|ESTIMATED|DEFAULTED|IDLE|' \
         r'DE_ENERGISED|ENERGISED|READING|INPUT_ENDED|STOPPED|TOLERANCE|TAKE_FLAG_\w+|QUALITY_(?!MAX)\w+)'
 
+raw = {path: path.read_text().splitlines() for path in {l.path for l in lines}}
+
+# Whether a reason stands beside the line `no` of a file: above it, further down in the function that begins there, or at the file's head.
+def has_reason(path, no):
+    text = raw[path]
+    first = max(0, no - 17)
+    last = no
+    if re.match(r'\s*(pub(\([a-z]+\))? )?(extern "C" )?fn ', text[no - 1]):
+        indent = len(text[no - 1]) - len(text[no - 1].lstrip())
+        while last < len(text) and text[last - 1] != ' ' * indent + '}':
+            last += 1
+    return any('// Kept: ' in l for l in text[:4] + text[first:last])
+
 def at(line, what=None):
     return line.crate, '%s:%d: %s' % (line.path, line.no, what or line.text.strip())
 
@@ -111,7 +125,7 @@ def point_2():
 
 def point_3():
     for l in lines:
-        if re.search(r"^\s*('\w+: )?while ", l.text):
+        if re.search(r"^\s*('\w+: )?(while |for \w+ in 0\.\.(?!u64::MAX|TURNS))", l.text):
             yield at(l)
 
 HAND = r'(wide|signed|signed_of|magnitude|is_digit|is_minus|digit_byte|put|put_all|put_digits|put_number|put_signed|starts_with|fill|hold|move_up|fresh_state|unpack)'
@@ -180,7 +194,9 @@ def point_8():
 for point in points:
     found = list(globals()['point_' + point]())
     crates = collections.Counter(c for c, _ in found)
-    print('%s: %d  %s' % (point, len(found), ', '.join('%s %d' % (c, n) for c, n in crates.items() if c != '-')))
+    placed = [(what, re.match(r'(crates/\S+?\.rt):(\d+): ', what)) for _, what in found]
+    without = {what for what, m in placed if m and not has_reason(pathlib.Path(m.group(1)), int(m.group(2)))}
+    print('%s: %d, no reason %d  %s' % (point, len(found), len(without), ', '.join('%s %d' % (c, n) for c, n in crates.items() if c != '-')))
     if listed:
         for _, what in found:
-            print('   ' + what)
+            print('   ' + what + ('  (no reason)' if what in without else ''))

@@ -5,7 +5,7 @@
 #   const CALL_WORDS 10
 #   fn cepnhoy_fresh() -> Settings
 #
-# A slice of the Rattle text is given as C has it: a pointer, then the length.
+# A slice of the Rattle text is given as C has it: a pointer, then the length. C knows the numbers of an enum as constants.
 
 function without(pattern, text) {
     sub(pattern, "", text)
@@ -23,6 +23,14 @@ function print_constant(line,    value) {
     value = without(";.*", without(".*= *", line))
     gsub("_", "", value)
     print "const", without(":.*", without("^ *pub const ", line)), value
+}
+
+# A line `Name = value,` of an enum. The constant is NAME for a refusal, and KIND_NAME for a kind of call.
+function print_variant(line,    name, value) {
+    name = without(" .*", without("^ *", line))
+    value = without(",.*", without(".*= *", line))
+    gsub("[A-Z]", "_&", name)
+    print "const", (enumeration == "Refusal" ? "" : toupper(enumeration) "_") toupper(without("^_", name)), value
 }
 
 # An argument `name: type`, and the length after it if it is a slice.
@@ -52,6 +60,9 @@ function print_function(text,    result) {
 /^pub struct / && for_c { structure = $3; for_c = 0; next }
 /^}/ && structure != "" { print "struct", structure; structure = "" }
 /^ *pub / && structure != "" { print_field($0) }
+/^pub enum / { enumeration = $3 }
+/^}/ { enumeration = "" }
+/^ *[A-Z][A-Za-z]* = [0-9]+,/ && enumeration != "" { print_variant($0) }
 /^ *pub const / { print_constant($0) }
 /^ *(pub extern "C" )?fn cepnhoy_/ { open = 1; signature = "" }
 open { signature = signature without("^ *", $0) " " }

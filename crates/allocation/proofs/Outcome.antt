@@ -17,9 +17,9 @@ use Rattle.cells.specs.Energy.{any_lacks_shape}
 use Rattle.correction.specs.declared.UnitSums.{UnitSums}
 use Rattle.correction.specs.Correction.{weighted_total, sums_cause}
 use Rattle.correction.specs.Volumes.{volumes_of}
-use Rattle.correction.specs.Outcome.{correction_of, volumes_written}
+use Rattle.correction.specs.Outcome.{volumes_written}
 use Rattle.correction.proofs.Apportioned.{numerators_of}
-use Rattle.correction.proofs.Outcome.{corrected-distance, corrected-slice, corrected-total, corrected-volumes, correction-number}
+use Rattle.correction.proofs.Outcome.{corrected-distance, corrected-slice, corrected-total, corrected-volumes}
 use Rattle.allocation.specs.declared.Allocated.{Allocated}
 use Rattle.allocation.specs.Losses.{LossesReconciled}
 use Rattle.allocation.specs.Allocate.{all_unit_sums, allocation_cause, Allocation, figures_of, allocation_outcome, allocate_call, meters_cause}
@@ -58,8 +58,8 @@ module _ (b : Book) (slice : List ℤ) (h : (allocate_call b slice).answer.numbe
   outcome-is = ap (λ (cause : ℕ). allocation_outcome cause b slice) no-cause
 
   -- its sums are corrected
-  corrected : (correction_of b.settings.take_wh b.settings.tolerance (sums_of b)).number ≡ accepted
-  corrected = correction-number b.settings.take_wh b.settings.tolerance (sums_of b) ∙ sums-pass b slice no-cause
+  corrected : sums_cause b.settings.take_wh b.settings.tolerance (sums_of b) ≡ accepted
+  corrected = sums-pass b slice no-cause
 
   slice_is : (allocate_call b slice).volumes ≡ volumes_written b.settings.take_wh b.settings.tolerance (sums_of b) slice
   unfolding allocation_outcome

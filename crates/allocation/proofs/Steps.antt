@@ -7,7 +7,7 @@ use native.Mathlib.Omega.{arith}
 use borrow.Author.Tests.{leb-true}
 use lib.Dec.{lit<, eqb}
 use lib.IntN.{ℤ, pos, neg_ℤ}
-use lib.ListN.{length, get_or, length-map}
+use lib.ListN.{length, get_or}
 use mir.Syntax.{w64}
 use mir.Val.{SFits}
 use Rattle.integers.specs.Sum.{sum}
@@ -24,14 +24,13 @@ use Rattle.cells.specs.Cells.{is_loss_class, cell, count_from, cells_of, units, 
 use Rattle.cells.specs.Helpers.{raw_cell, table_of, empty_cell, GatherArguments}
 use Rattle.cells.proofs.Entries.{by_place}
 use Rattle.cells.proofs.Counting.{counted-length, cells-length, cells_at}
-use Rattle.cells.proofs.Tables.{table-row, table-sized}
+use Rattle.cells.proofs.Tables.{table-row}
 use Rattle.cells.proofs.CellBounds.{raw-cell-is}
 use Rattle.correction.specs.declared.UnitSums.{UnitSums}
-use Rattle.correction.specs.Correction.{by_direction, net_of, weighted_of, net_in, weighted_in}
-use Rattle.correction.specs.Outcome.{pairs_of}
-use Rattle.correction.specs.Helpers.{whole_cell, dropped_cell, each_from, rounded_from, sums_of, droppings_of, UnitArguments, AllUnitsArguments, AllUnits, CorrectArguments, sizes}
+use Rattle.correction.specs.declared.AllUnits.{AllUnits}
+use Rattle.correction.specs.Correction.{by_direction, net_of, weighted_of}
+use Rattle.correction.specs.Helpers.{whole_cell, dropped_cell, each_from, rounded_from, sums_of, droppings_of, UnitArguments, AllUnitsArguments, UnitsWorked, CorrectArguments}
 use Rattle.correction.proofs.RunningSums.{net-counted}
-use Rattle.correction.proofs.Pairs.{pairs-of-sums}
 use Rattle.allocation.specs.Losses.{cell_dropped, unit_droppings, all_droppings}
 use Rattle.allocation.specs.Allocate.{unit_sums, all_unit_sums}
 use Rattle.allocation.proofs.Bounds.{Limited, book-limited, cell-limited}
@@ -102,80 +101,62 @@ module _ (s : Settings) (words : List ℕ) (wf : well_formed (lent s words) ≡ 
         few = omega (arith, book.within);
         rows-formed = book.rows-formed;
         shapes-formed = (formed-settings s book.settings-formed).shapes-formed;
-        shapes-long = long;
         cells-empty = t;
         counts-empty = k;
       }
 
-  unit-arguments : length s.weights ≡ classes → (unit : ℕ) → UnitArguments (map (raw_cell s.shapes (meters_in s words) unit) (count_from 0 classes)) s.weights
-  unit-arguments long unit =
+  unit-arguments : (unit : ℕ) → UnitArguments (map (raw_cell s.shapes (meters_in s words) unit) (count_from 0 classes)) s.weights
+  unit-arguments unit =
       let meters = meters_in s words in
       record {
-        cells-long = counted-length (raw_cell s.shapes meters unit) classes;
-        weights-long = long;
         cells-bound = rw (rounded-cells s.shapes meters unit)
             (by_place (cells_of s.shapes meters unit) classes 1400000000000 (cells-length s.shapes meters unit)
             (λ k h. rw (cells_at s.shapes meters unit k (pos 0) h) (cell-limited s meters limited unit k)));
         weights-bound = λ k. leb-true _ 1000 (entry-passes is_weight s.weights k 0 limited.weights refl);
       }
 
-  pub all-units-arguments : {table : List (List ℤ)} {nets weighted droppings : List ℤ} → length s.weights ≡ classes → length nets ≡ units → length weighted ≡ units → length droppings ≡ units
-      → table ≡ table_of (raw_cell s.shapes (meters_in s words)) → AllUnitsArguments table s.weights nets weighted droppings
-  all-units-arguments long n a d t =
+  pub all-units-arguments : {table : List (List ℤ)} → table ≡ table_of (raw_cell s.shapes (meters_in s words)) → AllUnitsArguments table s.weights
+  all-units-arguments t =
       let raw = raw_cell s.shapes (meters_in s words) in
       record {
-        rows_long = ap length t ∙ (table-sized raw).rows_long;
-        nets-long = n;
-        weighted-long = a;
-        droppings-long = d;
         each = λ unit h.
             subst (λ (row : List ℤ). UnitArguments row s.weights)
             (sym (ap (λ (x : List (List ℤ)). get_or x unit []) t ∙ table-row raw unit h))
-            (unit-arguments long unit);
+            (unit-arguments unit);
       }
 
   pub take-fits : SFits w64 s.take_wh
   take-fits = fit s.take_wh 5000000000 limited.take-wh (lit< tt)
 
 -- n, a and droppings of the units, as the code has them
-units-from-table : (s : Settings) (meters : List Row) (read : UnitSums → ℤ) → map (λ cells. read (sums_of cells s.weights)) (table_of (raw_cell s.shapes meters)) ≡ map read (all_unit_sums s meters)
+sums-from-table : (s : Settings) (meters : List Row) → map (λ cells. sums_of cells s.weights) (table_of (raw_cell s.shapes meters)) ≡ all_unit_sums s meters
 unfolding table_of all_unit_sums unit_sums
-units-from-table s meters read =
+sums-from-table s meters =
     map-map _ _ (count_from 0 units)
-    ∙ ap (λ (f : ℕ → ℤ). map f (count_from 0 units))
-    (fun_ext (λ (unit : ℕ). ap (λ (cells : List ℤ). read (record { net = net_of 0 cells; weighted = weighted_of cells s.weights })) (rounded-cells s.shapes meters unit)))
-    ∙ sym (map-map read (unit_sums s meters) (count_from 0 units))
+    ∙ ap (λ (f : ℕ → UnitSums). map f (count_from 0 units))
+    (fun_ext (λ (unit : ℕ). ap (λ (cells : List ℤ). record { net = net_of 0 cells; weighted = weighted_of cells s.weights }) (rounded-cells s.shapes meters unit)))
 
 droppings-from-table : (shapes : List ℕ) (meters : List Row) → map droppings_of (table_of (raw_cell shapes meters)) ≡ all_droppings shapes meters
 unfolding table_of all_droppings
 droppings-from-table shapes meters =
     map-map _ _ (count_from 0 units) ∙ ap (λ (f : ℕ → ℤ). map f (count_from 0 units)) (fun_ext (dropped-cells shapes meters))
 
-module _ (s : Settings) (words : List ℕ) (wf : well_formed (lent s words) ≡ true) {table : List (List ℤ)} {nets weighted droppings : List ℤ} (t : table ≡ table_of (raw_cell s.shapes (meters_in s words))) (given : AllUnits table s.weights nets weighted droppings) where
-  nets-are : nets ≡ map net_in (sums_in s words)
-  nets-are = given.nets-are ∙ ap (map (λ cells. net_in (sums_of cells s.weights))) t ∙ units-from-table s (meters_in s words) net_in
+module _ (s : Settings) (words : List ℕ) {table : List (List ℤ)} {x : AllUnits} (t : table ≡ table_of (raw_cell s.shapes (meters_in s words))) (given : UnitsWorked s.weights table x) where
+  pub sums-worked : x.sums ≡ sums_in s words
+  sums-worked = given.sums-are ∙ ap (map (λ cells. sums_of cells s.weights)) t ∙ sums-from-table s (meters_in s words)
 
-  weighted-are : weighted ≡ map weighted_in (sums_in s words)
-  weighted-are = given.weighted-are ∙ ap (map (λ cells. weighted_in (sums_of cells s.weights))) t ∙ units-from-table s (meters_in s words) weighted_in
-
-  pub droppings-worked : droppings ≡ all_droppings s.shapes (meters_in s words)
+  pub droppings-worked : x.droppings ≡ all_droppings s.shapes (meters_in s words)
   droppings-worked = given.droppings-are ∙ ap (map droppings_of) t ∙ droppings-from-table s.shapes (meters_in s words)
 
-  pub sums-worked : pairs_of nets weighted ≡ sums_in s words
-  sums-worked = rw (nets-are, weighted-are) (pairs-of-sums (sums_in s words))
-
-  long : (read : UnitSums → ℤ) {xs : List ℤ} → xs ≡ map read (sums_in s words) → length xs ≡ units
-  long read e = ap length e ∙ length-map (sums_in s words) read ∙ sums-length s (meters_in s words)
-
-  pub correct-arguments : {slice : List ℤ} → units ≤ length slice → CorrectArguments s.take_wh s.tolerance nets weighted slice
-  correct-arguments long-slice =
-      let l = limited s words wf in
-      record {
-        nets-long = long net_in nets-are;
-        weighted-long = long weighted_in weighted-are;
-        volumes-long = long-slice;
+pub correct-arguments : (s : Settings) (words : List ℕ) → well_formed (lent s words) ≡ true → {slice : List ℤ} → units ≤ length slice → CorrectArguments s.take_wh s.tolerance (sums_in s words) slice
+correct-arguments s words wf long-slice =
+    let l = limited s words wf in
+    record {
+      sums-within = record {
         take_bound = l.take-wh;
-        tolerance-bound = l.tolerance;
-        nets-bound = omega (arith, ap sizes nets-are, nets-total s l.rows l.few);
-        weighted-bound = omega (arith, ap sizes weighted-are, weighteds-total s l.rows l.few l.weights);
-      }
+        nets-bound = omega (arith, nets-total s l.rows l.few);
+        weighted-bound = omega (arith, weighteds-total s l.rows l.few l.weights);
+      };
+      tolerance-bound = l.tolerance;
+      volumes-long = long-slice;
+    }

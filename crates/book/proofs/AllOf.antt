@@ -1,12 +1,16 @@
 -- A list of settings tested entry by entry: what was told and what is left decide, and each entry of one that passes does.
 use Prim.Native.Nat.{ℕ, zero, suc, ◌+◌, ◌≤◌, ◌<◌}
 use mathlib.Core.Path.{◌≡◌, refl, sym, ◌∙◌, ap}
-use mathlib.Core.Bool.{Bool, true, ◌&&◌, and_assoc, and-true, and-eq-true_iff}
+use mathlib.Core.Bool.{Bool, true, ◌&&◌, and_assoc, and-true, and-eq-true_iff, or-false}
 use mathlib.Core.List.{List, [], ◌∷◌}
 use native.Mathlib.Numerals.{add-one}
+use lib.Dec.{eqb-suc-zero}
 use lib.ListN.{length, get_or, set, drop, drop_of_length-le}
+use mir.ValLaws.{to_z-of_z}
 use lib.Seq.{drop-cons}
-use Rattle.book.specs.Settings.{all_of}
+use Rattle.book.specs.Limits.{weight_most}
+use Rattle.book.specs.Settings.{is_weight, all_of}
+use Rattle.book.specs.Helpers.{within}
 
 module _ (test : ℕ → Bool) (xs : List ℕ) where
   -- `all` tells of the entries before i, and those from i on decide the rest
@@ -45,3 +49,17 @@ all_set test (x ∷ xs) zero v h t = rw (t, ((and-eq-true_iff (test x) (all_of t
 all_set test (x ∷ xs) (suc i) v h t =
     let k = (and-eq-true_iff (test x) (all_of test xs)).0 h in
     rw k.0 (all_set test xs i v k.1 t)
+
+pub ruleset entries = (all_left, one-tested, none_left)
+
+-- 0 is a weight already, so it lets nothing more in
+weight-within : (x : ℕ) → within weight_most 0 x ≡ is_weight x
+weight-within zero = refl
+weight-within (suc x) = rw (eqb-suc-zero, or-false)
+
+pub weights-within : (xs : List ℕ) → all_of (within weight_most 0) xs ≡ all_of is_weight xs
+unfolding all_of
+weights-within [] = refl
+weights-within (x ∷ xs) = rw (weight-within x, weights-within xs)
+
+pub ruleset weights = (weights-within, to_z-of_z)

@@ -1,6 +1,5 @@
 -- Laws of the book's definitions, for this crate's functions and for the crates above.
 pub mod AllOf
-pub mod SettingBounds
 pub mod RowsOf
 pub mod RowsFormed
 pub mod WellFormed
@@ -16,4 +15,6 @@ pub mod Parts
 pub mod BookFormed
 pub mod StoredFormed
 pub mod Charges
+pub mod Chunks
+pub mod TakeBits
 pub mod Placed

@@ -3,7 +3,7 @@ use Prim.Native.Nat.{ℕ, ◌-◌}
 use mathlib.Core.Path.{◌≡◌, ◌∙◌, ap}
 use mathlib.Core.List.{List, ◌++◌, append-nil}
 use native.Mathlib.Omega.{arith}
-use borrow.Rule.Slice.PartMut.{put_mid, post_of}
+use borrow.Rule.Slice.PartMut.{put_mid}
 use lib.ListN.{length, take, drop, length-drop, drop_of_length-le}
 use lib.Seq.{take_all}
 
@@ -13,7 +13,6 @@ rest_part a xs = take_all (length xs - a) (drop a xs) (omega (arith, length-drop
 
 -- put back, it stands after what was before it
 pub rest_put : (a : ℕ) (xs ys : List ℕ) → put_mid a (length xs - a) xs ys ≡ take a xs ++ ys
-unfolding post_of
 rest_put a xs ys =
     ap (λ (zs : List ℕ). take a xs ++ zs)
     (ap (λ (zs : List ℕ). ys ++ zs) (drop_of_length-le (drop a xs) {i = length xs - a} (omega (arith, length-drop a xs))) ∙ append-nil ys)

@@ -174,3 +174,8 @@ module _ (words : List ℕ) (n m : ℕ) where
   pub known-mpan-in : (before : ℕ) → rows_formed before (rows_of n words) ≡ true → is_known m (rows_of n words) ≡ true → get_or words (3 * place_of m (rows_of n words)) 0 ≡ m
   known-mpan-in before f h =
       sym (mpan-there words n (place_of m (rows_of n words)) (known-within-in h)) ∙ known-mpan before (rows_of n words) m (first_row words) f h
+
+-- for the search for a proof
+pub ruleset found = (eq-eqb, ne_eqb, known-none-in, known-at-in)
+
+pub ruleset near = (place-same-in, known-same-in)

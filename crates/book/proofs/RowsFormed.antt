@@ -1,19 +1,21 @@
 -- The rows of a slice tested one after the other: what is left decides. The range of MPANs is tested at the last row only.
 use Prim.Native.Nat.{ℕ, ◌+◌, ◌*◌, ◌-◌, ◌≤◌, ◌<◌}
-use mathlib.Core.Path.{◌≡◌, refl, sym, ◌∙◌, ap}
+use mathlib.Core.Path.{◌≡◌, refl, sym, ◌∙◌, ap, subst}
 use mathlib.Core.Bool.{Bool, true, false, ◌&&◌}
 use mathlib.Core.List.{List, [], ◌∷◌}
 use native.Mathlib.Omega.{arith}
 use lib.Dec.{leb, ltb}
-use lib.ListN.{drop}
+use lib.ListN.{length, get_or, drop}
 use borrow.Author.Tests.{ltb-true, leb-true, leb-false, le-leb, lt-leb, lt-ltb}
 use Rattle.words.specs.Limits.{mpan_least, mpan_most}
 use Rattle.words.specs.Mpan.{is_mpan}
 use Rattle.words.specs.Registration.{is_registration}
 use Rattle.words.specs.Reading.{is_reading}
 use Rattle.words.proofs.Tests.{by-test}
-use Rattle.book.specs.Rows.{Row, is_row, rows_of, rows_formed}
+use Rattle.std.specs.Simd.{first_chunks}
+use Rattle.book.specs.Rows.{Row, first_row, is_row, rows_of, rows_formed}
 use Rattle.book.proofs.RowsOf.{row_at, rows_next}
+use Rattle.book.proofs.Chunks.{length-chunks, chunk-row}
 
 -- a row that stands above the one before it, with well-formed words behind its MPAN
 abbrev pub rises : ℕ → Row → Bool
@@ -111,17 +113,27 @@ module _ (words : List ℕ) (n : ℕ) where
   unfolding rises_from
   next_row before i h l = l.decide ∙ rw (rows_next words n i h)
 
-  pub row-passes : (before i : ℕ) → i < n → RowsLeft before i → rises before (row_at words (3 * i)) ≡ true → RowsLeft (row_at words (3 * i)).mpan (i + 1)
-  row-passes before i h l t =
-      record
-      { decide = next_row before i h l ∙ ap (λ (b : Bool). b && rises_from (row_at words (3 * i)).mpan (rows_of (n - (i + 1)) (drop (3 * (i + 1)) words))) t }
+  -- as the code tests them, by their words three by three
+  module _ {chunks : List (List ℕ)} (e : chunks ≡ first_chunks 3 n words) (before i : ℕ) (l : RowsLeft before i) where
+    row_there : i < length chunks → first_row (get_or chunks i []) ≡ row_at words (3 * i)
+    row_there h = chunk-row n i words e (omega (arith, ap length e, length-chunks n words))
 
-  pub row-fails : (before i : ℕ) → i < n → RowsLeft before i → rises before (row_at words (3 * i)) ≡ false → false ≡ rows_formed 0 (rows_of n words)
-  row-fails before i h l t =
-      sym (next_row before i h l ∙ ap (λ (b : Bool). b && rises_from (row_at words (3 * i)).mpan (rows_of (n - (i + 1)) (drop (3 * (i + 1)) words))) t)
+    pub row-passes : i < length chunks → rises before (first_row (get_or chunks i [])) ≡ true → RowsLeft (first_row (get_or chunks i [])).mpan (i + 1)
+    row-passes h t =
+        let k : i < n = omega (arith, ap length e, length-chunks n words) in
+        subst (λ (r : Row). RowsLeft r.mpan (i + 1)) (sym (row_there h))
+        (record
+        { decide = next_row before i k l ∙ ap (λ (b : Bool). b && rises_from (row_at words (3 * i)).mpan (rows_of (n - (i + 1)) (drop (3 * (i + 1)) words))) (subst (λ (r : Row). rises before r ≡ true) (row_there h) t) })
 
-  pub no-row-left : (before i : ℕ) → n ≤ i → RowsLeft before i → leb before mpan_most ≡ rows_formed 0 (rows_of n words)
-  unfolding rises_from rows_of
-  no-row-left before i h l =
-      let z : n - i ≡ 0 = omega arith in
-      sym (l.decide ∙ ap (λ (k : ℕ). rises_from before (rows_of k (drop (3 * i) words))) z)
+    pub row-fails : i < length chunks → rises before (first_row (get_or chunks i [])) ≡ false → false ≡ rows_formed 0 (rows_of n words)
+    row-fails h t =
+        let k : i < n = omega (arith, ap length e, length-chunks n words) in
+        sym (next_row before i k l ∙ ap (λ (b : Bool). b && rises_from (row_at words (3 * i)).mpan (rows_of (n - (i + 1)) (drop (3 * (i + 1)) words))) (subst (λ (r : Row). rises before r ≡ false) (row_there h) t))
+
+    pub no-row-left : length chunks ≤ i → leb before mpan_most ≡ rows_formed 0 (rows_of n words)
+    unfolding rises_from rows_of
+    no-row-left h =
+        let z : n - i ≡ 0 = omega (arith, ap length e, length-chunks n words) in
+        sym (l.decide ∙ ap (λ (k : ℕ). rises_from before (rows_of k (drop (3 * i) words))) z)
+
+pub ruleset turns = (all-rows-left, row-passes, row-fails, no-row-left)

@@ -1,60 +1,76 @@
--- What storing leaves, one law for each way it ends: as an equation of rows, and of the words and the answer that the code gives.
-use Prim.Native.Nat.{ℕ, suc, ◌+◌, ◌*◌, ◌-◌, ◌≤◌, ◌<◌}
+-- What storing leaves, one law for each way it ends: as an equation of rows, and of the words and the outcome that the code gives.
+use Prim.Native.Nat.{ℕ, ◌+◌, ◌*◌, ◌-◌, ◌≤◌, ◌<◌}
 use mathlib.Core.Path.{◌≡◌, sym, ◌∙◌, ap}
 use mathlib.Core.Bool.{true, false}
 use mathlib.Core.List.{List, ◌∷◌, ◌++◌}
 use borrow.Author.Tests.{le-leb, lt-leb}
-use lib.ListN.{length, get_or, set, take, drop}
+use lib.ListN.{length, get_or, set, take, drop, length-drop}
+use Rattle.std.specs.Prelude.{Option, Some, None, Result, Ok, Err}
+use Rattle.refusals.specs.declared.Refusal.{Refusal}
+use Rattle.refusals.specs.declared.Refusal.TheVariants.{ArgumentOutOfRange, QualityRefused, MeterUnknown, IssueNotAbove, CapacityReached}
 use Rattle.refusals.specs.Causes.{accepted, argument_out_of_range, quality_refused, meter_unknown, issue_not_above, capacity_reached}
+use Rattle.refusals.specs.Refusal.{number_of}
 use Rattle.words.specs.declared.Registration.{Registration}
 use Rattle.words.specs.declared.Reading.{Reading}
 use Rattle.words.specs.Reading.{no_reading, issue_of, quality_allowed, reading_word}
-use Rattle.book.specs.declared.Asked.{Asked}
+use Rattle.words.proofs.Tests.{by-test}
 use Rattle.book.specs.declared.Held.{Held}
 use Rattle.book.specs.declared.Stored.{Stored}
 use Rattle.book.specs.Rows.{Row, capacity, rows_of, is_known, issue_held, new_row, with_registration, with_reading, written}
 use Rattle.book.specs.Store.{register_in_range, reading_call_in_range, has_no_room, registration_cause, reading_cause}
-use Rattle.book.specs.Helpers.{place_of, nothing_held, row_held, held_in, Storing, storing, asked_of, word_storing, registration_storing, reading_storing, not_stored, stored_by, stored_of, RowsReady, Stores}
-use Rattle.words.proofs.Tests.{by-test}
+use Rattle.book.specs.Helpers.{place_of, row_held, held_in, Storing, storing, asked_of, word_storing, registration_storing, reading_storing, RowsReady, Stores}
 use Rattle.book.proofs.RowsOf.{length-rows}
 use Rattle.book.proofs.WellFormed.{room}
 use Rattle.book.proofs.Written.{written_same}
 use Rattle.book.proofs.WithRegistration.{length_inserted, length-replaced, registration-inserts, registration-stores}
 use Rattle.book.proofs.WithReading.{length-reading, reading-stores}
-use Rattle.book.proofs.HeldIn.{held_none, issue-held, held_in_lem, held-read, held-registered, held_new}
+use Rattle.book.proofs.Placed.{known-is, unknown-is, index-is, new-index-is, there}
+use Rattle.book.proofs.Parts.{rest_part}
+use Rattle.book.proofs.HeldIn.{held_none, reading_of, issue-held, held_in_lem, held-read, held-registered, held_new}
 
--- a registration, as it is asked for
-module _ (capacity m : ℕ) (asked : Asked) (rows : List Row) where
-  pub registration-out-of-range : asked.ok ≡ false → word_storing capacity m asked rows ≡ record { number = argument_out_of_range; rows = rows }
-  unfolding word_storing storing
-  registration-out-of-range h = rw h
+-- an `Ok` and an `Err` differ, and what equal ones give is equal
+module _ {T E : Type 0} where
+  ok-err : {x : T} {y : E} → Ok x ≡ Err y → ⊥
+  ok-err e = cc
 
-  module _ (range : asked.ok ≡ true) where
-    pub registration-no-room : is_known m rows ≡ false → capacity ≤ length rows → word_storing capacity m asked rows ≡ record { number = capacity_reached; rows = rows }
-    unfolding word_storing storing has_no_room
-    registration-no-room k full = rw (range, k, le-leb capacity (length rows) full)
+  err-ok : {x : T} {y : E} → Err y ≡ Ok x → ⊥
+  err-ok e = cc
 
-    registration-known : is_known m rows ≡ true → word_storing capacity m asked rows ≡ record { number = accepted; rows = with_registration m asked.word rows }
-    unfolding word_storing storing has_no_room
-    registration-known k = rw (range, k)
+  same_Ok : {x y : T} → ◌≡◌ {A = Result T E} (Ok x) (Ok y) → x ≡ y
+  same_Ok e = cc
 
-    registration-new : is_known m rows ≡ false → length rows < capacity → word_storing capacity m asked rows ≡ record { number = accepted; rows = with_registration m asked.word rows }
-    unfolding word_storing storing has_no_room
-    registration-new k free = rw (range, k, lt-leb capacity (length rows) free)
+  same_Err : {x y : E} → ◌≡◌ {A = Result T E} (Err x) (Err y) → x ≡ y
+  same_Err e = cc
 
--- what a register call asks for is stored as the call's registration is: out of range, no word is
-asked-storing : (capacity m : ℕ) (r : Registration) (rows : List Row) → word_storing capacity m (asked_of m r) rows ≡ registration_storing capacity m r rows
-unfolding word_storing registration_storing registration_cause storing
-asked-storing capacity m r rows = by-test (register_in_range m r) (λ t. rw t) (λ t. rw t)
+-- the word of a registration in range
+module _ (capacity m word : ℕ) (rows : List Row) where
+  pub registration-no-room : is_known m rows ≡ false → capacity ≤ length rows → word_storing capacity m word rows ≡ record { number = capacity_reached; rows = rows }
+  unfolding word_storing storing has_no_room
+  registration-no-room k full = rw (k, le-leb capacity (length rows) full)
 
-pub asked-stores : (capacity m : ℕ) (r : Registration) {n : ℕ} {words : List ℕ} {asked : Asked} {stored : Stored} {words_after : List ℕ} → asked ≡ asked_of m r
-    → Stores m (word_storing capacity m asked) n words stored words_after → Stores m (registration_storing capacity m r) n words stored words_after
-asked-stores capacity m r {n = n} {words = words} {asked = asked} e h =
-    let o : word_storing capacity m asked (rows_of n words) ≡ registration_storing capacity m r (rows_of n words) = rw e (asked-storing capacity m r (rows_of n words)) in
-    record {
-      answer = h.answer ∙ ap (stored_of m (rows_of n words)) o;
-      slice = h.slice ∙ ap (λ (x : Storing). written x.rows words) o;
-    }
+  pub registration-known : is_known m rows ≡ true → word_storing capacity m word rows ≡ record { number = accepted; rows = with_registration m word rows }
+  unfolding word_storing storing has_no_room
+  registration-known k = rw k
+
+  pub registration-new : is_known m rows ≡ false → length rows < capacity → word_storing capacity m word rows ≡ record { number = accepted; rows = with_registration m word rows }
+  unfolding word_storing storing has_no_room
+  registration-new k free = rw (k, lt-leb capacity (length rows) free)
+
+-- what a register call asks for: out of range, nothing is stored, and a word is stored as the call's registration is
+module _ (capacity m : ℕ) (r : Registration) (rows : List Row) where
+  asked-out-of-range : {refusal : Refusal} → asked_of m r ≡ Err refusal → registration_storing capacity m r rows ≡ record { number = number_of refusal; rows = rows }
+  unfolding registration_storing registration_cause storing
+  asked-out-of-range e =
+      by-test (register_in_range m r)
+      (λ t. absurd (ok-err (rw t at e)))
+      (λ t. rw (t, sym (same_Err (rw t at e))))
+
+  asked-storing : {word : ℕ} → asked_of m r ≡ Ok word → registration_storing capacity m r rows ≡ word_storing capacity m word rows
+  unfolding word_storing registration_storing registration_cause storing
+  asked-storing e =
+      by-test (register_in_range m r)
+      (λ t. rw (t, same_Ok (rw t at e)))
+      (λ t. absurd (err-ok (rw t at e)))
 
 -- a reading
 module _ (m : ℕ) (r : Reading) (rows : List Row) where
@@ -83,71 +99,93 @@ module _ (m : ℕ) (r : Reading) (rows : List Row) where
 
 -- as the code stores: a refusal leaves the words, and an acceptance tells what the meter held and holds
 module _ {m n : ℕ} {words : List ℕ} (ready : RowsReady n words) {store : List Row → Storing} where
-  pub keeps : {k : ℕ} {stored : Stored} → stored ≡ not_stored (suc k) n → store (rows_of n words) ≡ record { number = suc k; rows = rows_of n words } → Stores m store n words stored words
-  unfolding stored_by
-  keeps e o =
-      record {
-        answer = e ∙ rw (o, length-rows n words);
-        slice = rw o (sym (written_same n words (room words n ready.within-capacity)));
-      }
+  pub keeps : {refusal : Refusal} → store (rows_of n words) ≡ record { number = number_of refusal; rows = rows_of n words } → Stores m store n words (Err refusal) words
+  keeps o = record { number = rw o; told = tt; slice = rw o (sym (written_same n words (room words n ready.within-capacity))) }
 
-  stores : {rows : List Row} {words_after : List ℕ} {meters : ℕ} {before after : Held} → store (rows_of n words) ≡ record { number = accepted; rows = rows }
-      → length rows ≡ meters → held_in m (rows_of n words) ≡ before → held_in m rows ≡ after → written rows words ≡ words_after
-      → Stores m store n words (record { number = accepted; meters = meters; before = before; after = after }) words_after
-  unfolding stored_by
-  stores o l b a w =
-      record {
-        answer = rw o (λ i. record { number = accepted; meters = sym l i; before = sym b i; after = sym a i });
-        slice = rw o (sym w);
-      }
+  stores : {rows : List Row} {words_after : List ℕ} {meters : ℕ} {before : Option Held} {after : Held} → store (rows_of n words) ≡ record { number = accepted; rows = rows }
+      → length rows ≡ meters → held_in m (rows_of n words) ≡ before → held_in m rows ≡ Some after → written rows words ≡ words_after
+      → Stores m store n words (Ok (record { meters = meters; before = before; after = after })) words_after
+  stores o l b a w = record { number = rw o; told = rw o (record { meters = sym l; before = sym b; after = sym a }); slice = rw o (sym w) }
+
+-- what is stored of a register call's word is stored of the call
+module _ (capacity m : ℕ) (r : Registration) {n : ℕ} {words : List ℕ} where
+  pub asked-refused : {refusal : Refusal} → RowsReady n words → asked_of m r ≡ Err refusal → Stores m (registration_storing capacity m r) n words (Err refusal) words
+  asked-refused ready e = keeps ready (asked-out-of-range capacity m r (rows_of n words) e)
+
+  pub asked-stores : {word : ℕ} {outcome : Result Stored Refusal} {words_after : List ℕ} → asked_of m r ≡ Ok word
+      → Stores m (word_storing capacity m word) n words outcome words_after → Stores m (registration_storing capacity m r) n words outcome words_after
+  asked-stores e h =
+      let o = asked-storing capacity m r (rows_of n words) e in
+      record { number = rw o h.number; told = rw o h.told; slice = rw o h.slice }
+
+-- a reading refused before a row is looked at
+module _ (m : ℕ) {n : ℕ} {words : List ℕ} (ready : RowsReady n words) (r : Reading) where
+  pub out-of-range : reading_call_in_range m r ≡ false → Stores m (reading_storing m r) n words (Err ArgumentOutOfRange) words
+  out-of-range h = keeps ready (reading-out-of-range m r (rows_of n words) h)
+
+  module _ (range : reading_call_in_range m r ≡ true) where
+    pub of-refused-quality : quality_allowed r ≡ false → Stores m (reading_storing m r) n words (Err QualityRefused) words
+    of-refused-quality h = keeps ready (reading-of-refused-quality m r (rows_of n words) range h)
+
+    pub of-unknown-meter : quality_allowed r ≡ true → is_known m (rows_of n words) ≡ false → Stores m (reading_storing m r) n words (Err MeterUnknown) words
+    of-unknown-meter allowed h = keeps ready (reading-of-unknown-meter m r (rows_of n words) range allowed h)
 
 module _ (m : ℕ) {n : ℕ} {words : List ℕ} (ready : RowsReady n words) {k : ℕ} (place : k ≡ place_of m (rows_of n words)) where
-  held-there : is_known m (rows_of n words) ≡ true → held_in m (rows_of n words) ≡ row_held (get_or words (3 * k + 1) 0) (get_or words (3 * k + 2) 0)
-  held-there known = rw place (held_in_lem words n m 0 ready.formed known)
+  -- a new meter's row is inserted
+  module _ (word : ℕ) (unknown : is_known m (rows_of n words) ≡ false) where
+    pub no-room : capacity words ≤ n → Stores m (word_storing (capacity words) m word) n words (Err CapacityReached) words
+    no-room full = keeps ready (registration-no-room (capacity words) m word (rows_of n words) unknown (rw (length-rows n words) full))
 
-  module _ (asked : Asked) (range : asked.ok ≡ true) where
-    -- a known meter's word 1 is stored
-    pub registration-stored : is_known m (rows_of n words) ≡ true
-        → Stores m (word_storing (capacity words) m asked) n words
-        (record { number = accepted; meters = n; before = row_held (get_or words (3 * k + 1) 0) (get_or words (3 * k + 2) 0); after = row_held asked.word (get_or words (3 * k + 2) 0) })
-        (set words (3 * k + 1) asked.word)
-    registration-stored known =
+    pub row-inserted : n < capacity words → {words_after : List ℕ}
+        → words_after ≡ take (3 * place_of m (rows_of n words)) words ++ written (new_row m word ∷ rows_of (n - place_of m (rows_of n words)) (drop (3 * place_of m (rows_of n words)) words)) (drop (3 * place_of m (rows_of n words)) words)
+        → Stores m (word_storing (capacity words) m word) n words
+        (Ok (record { meters = n + 1; before = None; after = row_held word no_reading })) words_after
+    row-inserted free e =
         let rows = rows_of n words in
-        stores ready (registration-known (capacity words) m asked rows range known)
-        (length-replaced 0 m asked.word rows ready.formed known ∙ length-rows n words)
-        (held-there known)
-        (held-registered 0 m asked.word rows ready.formed known ∙ ap (λ (h : Held). row_held asked.word h.reading) (held-there known))
-        (registration-stores words n m asked.word (room words n ready.within-capacity) 0 ready.formed known ∙ rw place)
-
-    -- a new meter's row is inserted
-    pub row-inserted : is_known m (rows_of n words) ≡ false → n < capacity words → {words_after : List ℕ}
-        → words_after ≡ take (3 * place_of m (rows_of n words)) words ++ written (new_row m asked.word ∷ rows_of (n - place_of m (rows_of n words)) (drop (3 * place_of m (rows_of n words)) words)) (drop (3 * place_of m (rows_of n words)) words)
-        → Stores m (word_storing (capacity words) m asked) n words
-        (record { number = accepted; meters = n + 1; before = nothing_held; after = row_held asked.word no_reading }) words_after
-    row-inserted unknown free e =
-        let rows = rows_of n words in
-        stores ready (registration-new (capacity words) m asked rows range unknown (rw (length-rows n words) free))
-        (length_inserted m asked.word rows unknown ∙ ap (λ (l : ℕ). l + 1) (length-rows n words))
+        stores ready (registration-new (capacity words) m word rows unknown (rw (length-rows n words) free))
+        (length_inserted m word rows unknown ∙ ap (λ (l : ℕ). l + 1) (length-rows n words))
         (held_none m rows unknown)
-        (held_new m asked.word rows unknown)
-        (registration-inserts words n m asked.word (room words n ready.within-capacity) unknown ∙ sym e)
+        (held_new m word rows unknown)
+        (registration-inserts words n m word (room words n ready.within-capacity) unknown ∙ sym e)
 
-  module _ (r : Reading) (range : reading_call_in_range m r ≡ true) (allowed : quality_allowed r ≡ true) (known : is_known m (rows_of n words) ≡ true) where
-    issue-there : issue_held m (rows_of n words) ≡ issue_of (get_or words (3 * k + 2) 0)
-    issue-there = issue-held m (rows_of n words) ∙ ap (λ (h : Held). issue_of h.reading) (held-there known)
+  module _ (known : is_known m (rows_of n words) ≡ true) where
+    held-there : held_in m (rows_of n words) ≡ Some (row_held (get_or words (3 * k + 1) 0) (get_or words (3 * k + 2) 0))
+    held-there = rw place (held_in_lem words n m 0 ready.formed known)
 
-    pub not-above : r.issue ≤ issue_of (get_or words (3 * k + 2) 0) → reading_storing m r (rows_of n words) ≡ record { number = issue_not_above; rows = rows_of n words }
-    not-above h = reading-not-above m r (rows_of n words) range allowed known (rw issue-there h)
-
-    -- a known meter's word 2 is stored
-    pub reading-stored : {w : ℕ} → w ≡ reading_word r → issue_of (get_or words (3 * k + 2) 0) < r.issue
-        → Stores m (reading_storing m r) n words
-        (record { number = accepted; meters = n; before = row_held (get_or words (3 * k + 1) 0) (get_or words (3 * k + 2) 0); after = row_held (get_or words (3 * k + 1) 0) w })
-        (set words (3 * k + 2) w)
-    reading-stored {w} word h =
+    -- a known meter's word 1 is stored
+    pub registration-stored : (word : ℕ)
+        → Stores m (word_storing (capacity words) m word) n words
+        (Ok (record { meters = n; before = Some (row_held (get_or words (3 * k + 1) 0) (get_or words (3 * k + 2) 0)); after = row_held word (get_or words (3 * k + 2) 0) }))
+        (set words (3 * k + 1) word)
+    registration-stored word =
         let rows = rows_of n words in
-        stores ready (reading-above m r rows range allowed known (rw issue-there h))
-        (length-reading m (reading_word r) rows ∙ length-rows n words)
-        (held-there known)
-        (held-read m (reading_word r) rows known ∙ rw word (ap (λ (x : Held). row_held x.registration (reading_word r)) (held-there known)))
-        (reading-stores words n m 0 ready.formed known (reading_word r) (room words n ready.within-capacity) ∙ rw (place, word))
+        stores ready (registration-known (capacity words) m word rows known)
+        (length-replaced 0 m word rows ready.formed known ∙ length-rows n words)
+        held-there
+        (held-registered 0 m word rows ready.formed held-there)
+        (registration-stores words n m word (room words n ready.within-capacity) 0 ready.formed known ∙ rw place)
+
+    module _ (r : Reading) (range : reading_call_in_range m r ≡ true) (allowed : quality_allowed r ≡ true) where
+      issue-there : issue_held m (rows_of n words) ≡ issue_of (get_or words (3 * k + 2) 0)
+      issue-there = issue-held m (rows_of n words) ∙ ap (λ (h : Option Held). issue_of (reading_of h)) held-there
+
+      pub not-above : r.issue ≤ issue_of (get_or words (3 * k + 2) 0) → Stores m (reading_storing m r) n words (Err IssueNotAbove) words
+      not-above h = keeps ready (reading-not-above m r (rows_of n words) range allowed known (rw issue-there h))
+
+      -- a known meter's word 2 is stored
+      pub reading-stored : {w : ℕ} → w ≡ reading_word r → issue_of (get_or words (3 * k + 2) 0) < r.issue
+          → Stores m (reading_storing m r) n words
+          (Ok (record { meters = n; before = Some (row_held (get_or words (3 * k + 1) 0) (get_or words (3 * k + 2) 0)); after = row_held (get_or words (3 * k + 1) 0) w }))
+          (set words (3 * k + 2) w)
+      reading-stored {w} word h =
+          let rows = rows_of n words in
+          stores ready (reading-above m r rows range allowed known (rw issue-there h))
+          (length-reading m (reading_word r) rows ∙ length-rows n words)
+          held-there
+          (held-read m (reading_word r) rows held-there ∙ rw word)
+          (reading-stores words n m 0 ready.formed known (reading_word r) (room words n ready.within-capacity) ∙ rw (place, word))
+
+-- for the search for a proof
+pub ruleset registered = (there, unknown-is, new-index-is, room, rest_part, length-drop, no-room)
+
+pub ruleset read = (there, known-is, unknown-is, index-is, out-of-range, of-refused-quality, of-unknown-meter, not-above)

@@ -10,7 +10,7 @@ use Rattle.book.specs.declared.Settings.{Settings}
 use Rattle.book.specs.Settings.{is_weight, is_shape, is_tolerance, take_formed, all_of, settings_formed}
 use Rattle.book.specs.Rows.{capacity, rows_of, rows_formed}
 use Rattle.book.specs.Book.{Book, used_rows, well_formed, lent}
-use Rattle.book.specs.Helpers.{RowsReady}
+use Rattle.book.specs.Helpers.{Searchable, RowsReady}
 use Rattle.book.proofs.RowsOf.{length-rows}
 
 -- a number of meters within capacity leaves room for their words
@@ -19,8 +19,8 @@ unfolding capacity
 room words n h = omega arith
 
 -- rows that are ready may be searched
-pub ready-to-search : {meters : ℕ} {words : List ℕ} → RowsReady meters words → (3 * meters ≤ length words) × (rows_formed 0 (rows_of meters words) ≡ true)
-ready-to-search {meters} {words} r = (room words meters r.within-capacity, r.formed)
+pub ready-to-search : {meters : ℕ} {words : List ℕ} → RowsReady meters words → Searchable meters words
+ready-to-search {meters} {words} r = record { within = room words meters r.within-capacity; formed = r.formed }
 
 pub record FormedBook (b : Book) : Type 0 where
   pub within : b.settings.meters ≤ capacity b.rows
@@ -78,3 +78,5 @@ module _ (s : Settings) (words : List ℕ) where
   rows-ready h =
       let f = formed-book (lent s words) h in
       record { within-capacity = f.within; formed = f.rows-formed }
+
+pub ruleset tested = (room, too-many-meters, ill-formed-settings, rows-decide)

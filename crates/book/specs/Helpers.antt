@@ -1,6 +1,9 @@
 -- What the functions below the calls are held to: places of rows, and what storing leaves.
-use Rattle.std.specs.Prelude.{ℕ, zero, suc, ◌≤◌, ◌≡◌, Bool, true, false, ◌||◌, cond, List, [], ◌∷◌, leb, ltb, eqb, length}
-use Rattle.refusals.specs.Causes.{accepted, argument_out_of_range}
+use Rattle.std.specs.Prelude.{ℕ, zero, suc, ◌*◌, ◌≤◌, ◌≡◌, Bool, true, ◌||◌, cond, Option, Some, None, Result, Ok, Err, IfOk, List, [], ◌∷◌, leb, ltb, eqb, length}
+use Rattle.refusals.specs.declared.Refusal.{Refusal}
+use Rattle.refusals.specs.declared.Refusal.TheVariants.{ArgumentOutOfRange}
+use Rattle.refusals.specs.Causes.{accepted}
+use Rattle.refusals.specs.Refusal.{number_given}
 use Rattle.words.specs.declared.Registration.{Registration}
 use Rattle.words.specs.declared.Reading.{Reading}
 use Rattle.words.specs.Registration.{registration_word}
@@ -8,13 +11,11 @@ use Rattle.words.specs.Reading.{reading_word}
 use Rattle.book.specs.declared.Settings.{Settings}
 use Rattle.book.specs.declared.Setting.{Setting}
 use Rattle.book.specs.declared.Answer.{Answer}
-use Rattle.book.specs.declared.Place.{Place}
-use Rattle.book.specs.declared.Asked.{Asked}
 use Rattle.book.specs.declared.Held.{Held}
 use Rattle.book.specs.declared.Stored.{Stored}
 use Rattle.book.specs.Settings.{setting_in_range, with_setting}
 use Rattle.book.specs.Rows.{Row, capacity, rows_of, rows_formed, is_known, with_registration, with_reading, written}
-use Rattle.book.specs.Store.{register_in_range, cause_where, registration_cause, reading_cause}
+use Rattle.book.specs.Store.{register_in_range, word_cause, registration_cause, reading_cause}
 
 -- the row of these words
 abbrev pub row : ℕ → ℕ → ℕ → Row
@@ -29,8 +30,14 @@ unfoldable pub place_of : ℕ → List Row → ℕ
 place_of m [] = 0
 place_of m (r ∷ rows) = cond (ltb r.mpan m) (suc (place_of m rows)) 0
 
-abbrev pub place_in : ℕ → List Row → Place
-place_in m rows = record { index = place_of m rows; known = is_known m rows }
+-- what a search for a meter finds: its row's place, or the place where its row is to stand
+abbrev pub place_in : ℕ → List Row → Result ℕ ℕ
+place_in m rows = cond (is_known m rows) (Ok (place_of m rows)) (Err (place_of m rows))
+
+-- rows that a meter may be looked for in
+pub record Searchable (meters : ℕ) (words : List ℕ) : Type 0 where
+  pub within : 3 * meters ≤ length words
+  pub formed : rows_formed 0 (rows_of meters words) ≡ true
 
 -- rows that a call may look for a meter in, and write, without a test of its own
 pub record RowsReady (meters : ℕ) (words : List ℕ) : Type 0 where
@@ -38,15 +45,12 @@ pub record RowsReady (meters : ℕ) (words : List ℕ) : Type 0 where
   pub formed : rows_formed 0 (rows_of meters words) ≡ true
 
 -- what a meter holds in rows
-abbrev pub nothing_held : Held
-nothing_held = record { known = false; registration = 0; reading = 0 }
-
 abbrev pub row_held : ℕ → ℕ → Held
-row_held registration reading = record { known = true; registration = registration; reading = reading }
+row_held registration reading = record { registration = registration; reading = reading }
 
-unfoldable pub held_in : ℕ → List Row → Held
-held_in m [] = nothing_held
-held_in m (r ∷ rows) = cond (eqb r.mpan m) (row_held r.registration r.reading) (held_in m rows)
+unfoldable pub held_in : ℕ → List Row → Option Held
+held_in m [] = None
+held_in m (r ∷ rows) = cond (eqb r.mpan m) (Some (row_held r.registration r.reading)) (held_in m rows)
 
 -- what storing leaves: the number given, and the rows
 pub record Storing : Type 0 where
@@ -58,13 +62,13 @@ unfoldable pub storing : ℕ → List Row → List Row → Storing
 storing zero made given = record { number = accepted; rows = made }
 storing (suc k) made given = record { number = suc k; rows = given }
 
--- what a register call asks for, and what storing it leaves
-abbrev pub asked_of : ℕ → Registration → Asked
-asked_of m r = cond (register_in_range m r) (record { ok = true; word = registration_word r }) (record { ok = false; word = 0 })
+-- what a register call asks for: a word to store, which is in range
+abbrev pub asked_of : ℕ → Registration → Result ℕ Refusal
+asked_of m r = cond (register_in_range m r) (Ok (registration_word r)) (Err ArgumentOutOfRange)
 
-unfoldable pub word_storing : ℕ → ℕ → Asked → List Row → Storing
-word_storing capacity m asked rows =
-    storing (cause_where asked.ok capacity m rows) (with_registration m asked.word rows) rows
+-- what storing that word leaves, and what storing a registration or a reading leaves
+unfoldable pub word_storing : ℕ → ℕ → ℕ → List Row → Storing
+word_storing capacity m word rows = storing (word_cause capacity m rows) (with_registration m word rows) rows
 
 unfoldable pub registration_storing : ℕ → ℕ → Registration → List Row → Storing
 registration_storing capacity m r rows = storing (registration_cause capacity m r rows) (with_registration m (registration_word r) rows) rows
@@ -72,25 +76,28 @@ registration_storing capacity m r rows = storing (registration_cause capacity m 
 unfoldable pub reading_storing : ℕ → Reading → List Row → Storing
 reading_storing m r rows = storing (reading_cause m r rows) (with_reading m (reading_word r) rows) rows
 
--- what a function that stores says of a storing in these rows: the number, the meters then, and what the meter m held and holds
-abbrev pub not_stored : ℕ → ℕ → Stored
-not_stored number meters = record { number = number; meters = meters; before = nothing_held; after = nothing_held }
+-- what is told where rows took what was to be stored: the meters then, and what the meter m held and holds
+pub record Tells (m : ℕ) (given made : List Row) (stored : Stored) : Type 0 where
+  pub meters : stored.meters ≡ length made
+  pub before : stored.before ≡ held_in m given
+  pub after : Some stored.after ≡ held_in m made
 
-unfoldable pub stored_by : ℕ → ℕ → List Row → List Row → Stored
-stored_by zero m given made = record { number = accepted; meters = length made; before = held_in m given; after = held_in m made }
-stored_by (suc k) m given made = not_stored (suc k) (length made)
-
-abbrev pub stored_of : ℕ → List Row → Storing → Stored
-stored_of m rows o = stored_by o.number m rows o.rows
-
--- what such a function leaves, of the first rows of a slice: its answer, and the slice with every word after the rows as it was
-pub record Stores (m : ℕ) (store : List Row → Storing) (meters : ℕ) (words : List ℕ) (stored : Stored) (words_after : List ℕ) : Type 0 where
-  pub answer : stored ≡ stored_of m (rows_of meters words) (store (rows_of meters words))
+-- what a function that stores leaves, of the first rows of a slice: the number and what is told, and the slice with every word after
+-- the rows as it was
+pub record Stores (m : ℕ) (store : List Row → Storing) (meters : ℕ) (words : List ℕ) (outcome : Result Stored Refusal) (words_after : List ℕ) : Type 0 where
+  pub number : number_given outcome ≡ (store (rows_of meters words)).number
+  pub told : IfOk outcome (Tells m (rows_of meters words) (store (rows_of meters words)).rows)
   pub slice : words_after ≡ written (store (rows_of meters words)).rows words
 
--- the number and the settings that replacing a setting gives
-unfoldable pub setting_replaced : Setting → Settings → Answer
-setting_replaced x s =
-    cond (setting_in_range x)
-    (record { number = accepted; settings = with_setting x s })
-    (record { number = argument_out_of_range; settings = s })
+-- what replacing a setting gives
+unfoldable pub setting_replaced : Setting → Settings → Result Settings Refusal
+setting_replaced x s = cond (setting_in_range x) (Ok (with_setting x s)) (Err ArgumentOutOfRange)
+
+-- "Returned", "Untouched": the settings after a call that was handed settings s
+abbrev pub settings_after : Settings → Result Settings Refusal → Settings
+settings_after s (Ok made) = made
+settings_after s (Err refusal) = s
+
+-- the answer of such a call
+abbrev pub answer_of : Settings → Result Settings Refusal → Answer
+answer_of s outcome = record { number = number_given outcome; settings = settings_after s outcome }

@@ -19,14 +19,12 @@ reading_call_in_range m r = is_mpan m && reading_in_range r
 unfoldable pub has_no_room : ℕ → ℕ → List Row → Bool
 has_no_room capacity m rows = not (is_known m rows) && leb capacity (length rows)
 
--- the cause for which rows do not take a registration, by whether the arguments are in range
-abbrev pub cause_where : Bool → ℕ → ℕ → List Row → ℕ
-cause_where in_range capacity m rows =
-    refuse (not in_range) argument_out_of_range
-    (refuse (has_no_room capacity m rows) capacity_reached accepted)
+-- the cause for which rows do not take a registration whose arguments are in range, and any registration
+abbrev pub word_cause : ℕ → ℕ → List Row → ℕ
+word_cause capacity m rows = refuse (has_no_room capacity m rows) capacity_reached accepted
 
 unfoldable pub registration_cause : ℕ → ℕ → Registration → List Row → ℕ
-registration_cause capacity m r rows = cause_where (register_in_range m r) capacity m rows
+registration_cause capacity m r rows = refuse (not (register_in_range m r)) argument_out_of_range (word_cause capacity m rows)
 
 -- "Reading: stored if its issue number [..] is above the one held. Message order plays no part": the cause for which rows do not take a reading
 unfoldable pub reading_cause : ℕ → Reading → List Row → ℕ

@@ -8,16 +8,12 @@ ghost use Rattle.book.specs.Book.{well_formed, lent};
 ghost use Rattle.book.specs.Helpers.{within};
 
 use crate::Settings;
-use crate::ranges::{is_take, is_tolerance};
-
-// A number of 32 bits at the full width.
-pub fn wide(x: u32) -> u64
-    ensures { result ≡ x }
-{
-    x as u64
-}
+use crate::ranges::is_take;
+use crate::rows::{first_rows, row_capacity};
 
 // Whether a flag and the Take beside it are well formed.
+// Kept: the flag is a number, since any number that a C program passes for it has to be seen and tested.
+#[tactic(auto, using(crate::proofs::TakeBits::takes), unfolding(crate::specs::Settings::take_formed))]
 fn take_formed(flag: u32, wh: i64) -> bool
     ensures { result ≡ take_formed flag wh }
 {
@@ -27,28 +23,26 @@ fn take_formed(flag: u32, wh: i64) -> bool
 
 // Whether every number of a list is at most `most` or is `other`. The outcomes are joined, with no way out of the loop before its
 // end, so that the compiler tests several numbers at once. Nearly every list passes anyway.
+#[tactic(auto, using(crate::proofs::AllOf::entries))]
 fn all_within(xs: &[u32], most: u64, other: u64) -> bool
     ensures { result ≡ all_of (within most other) xs.now }
 {
     let mut all = true;
-    let mut i = 0;
-    while i < xs.len() {
-        let x = wide(xs[i]);
-        all = all & ((x <= most) | (x == other));
-        i += 1;
+    for x in xs {
+        let x = u64::from(*x);
+        all &= (x <= most) | (x == other);
     }
     all
 }
 
 // Whether each setting is one that accepted calls could have written.
+#[tactic(auto, using(crate::proofs::AllOf::weights), unfolding(crate::specs::Settings::settings_formed))]
 fn settings_formed(s: Settings) -> bool
     ensures { result ≡ settings_formed s }
 {
-    let weights = s.weights;
-    let shapes = s.shapes;
-    all_within(&weights, Settings::WEIGHT_MAX, 0)
-        & all_within(&shapes, Settings::SHAPE_MAX, Settings::SHAPE_MISSING)
-        & is_tolerance(wide(s.tolerance))
+    all_within(&s.weights, Settings::WEIGHT_MAX, 0)
+        & all_within(&s.shapes, Settings::SHAPE_MAX, Settings::SHAPE_MISSING)
+        & (u64::from(s.tolerance) <= Settings::TOLERANCE_MAX)
         & take_formed(s.take_set, s.take_wh)
 }
 
@@ -68,30 +62,28 @@ fn row_rises(before: u64, mpan: u64, registration: u64, reading: u64) -> bool
 
 // Whether the first n rows are well formed and rise strictly. Rows that rise from below the least MPAN up to one that is in range
 // are all in range.
+#[tactic(auto, using(crate::proofs::RowsFormed::turns))]
 fn rows_formed(rows: &[u64], n: usize) -> bool
     requires { 3 * n ≤ length rows.now }
     ensures { result ≡ rows_formed 0 (rows_of n rows.now) }
 {
     let mut before = words::MPAN_MIN - 1;
-    let mut i = 0;
-    while i < n {
-        let at = 3 * i;
-        let mpan = rows[at];
-        if !row_rises(before, mpan, rows[at + 1], rows[at + 2]) {
+    for [mpan, registration, reading] in first_rows(rows, n) {
+        if !row_rises(before, *mpan, *registration, *reading) {
             return false;
         }
-        before = mpan;
-        i += 1;
+        before = *mpan;
     }
     before <= words::MPAN_MAX
 }
 
 // Whether the book that a call is lent is well formed.
+#[tactic(auto, using(crate::proofs::WellFormed::tested))]
 pub fn is_formed(settings: Settings, rows: &[u64]) -> bool
     ensures { result ≡ well_formed (lent settings rows.now) }
 {
     let meters = settings.meters;
-    if crate::rows::row_capacity(rows) < meters {
+    if row_capacity(rows) < meters {
         return false;
     }
     if !settings_formed(settings) {

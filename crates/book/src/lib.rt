@@ -3,7 +3,10 @@
 #![tactic(auto)]
 
 ghost use Rattle.std.specs.Prelude.{◌≡◌};
-ghost use Rattle.book.specs.Settings.{fresh_settings};
+ghost use Rattle.book.specs.Settings.{fresh_settings, with_meters};
+ghost use Rattle.book.specs.Helpers.{answer_of};
+
+use refusals::{Refusal, number_given};
 
 pub mod formed;
 pub mod ranges;
@@ -11,8 +14,9 @@ pub mod replace;
 pub mod rows;
 pub mod store;
 
-// The settings, passed in and returned. Whatever bytes a C program passes are numbers that the contracts speak of: the flag of the
-// Take is no `bool`, which has two values only, and the order of the fields leaves no padding.
+// The settings, passed in and returned. Whatever bytes a C program passes are numbers that the contracts speak of, and the order of
+// the fields leaves no padding.
+// Kept: the C interface has the Take's flag beside its value, and a program may pass any number for it, so that it is no Option or bool.
 #[repr(C)]
 #[derive(Clone, Copy)]
 pub struct Settings {
@@ -24,7 +28,8 @@ pub struct Settings {
     pub take_wh: i64,
 }
 
-// What a call that writes the book answers: 0 or the number of its refusal, and the settings.
+// What a C program is answered by a call that writes the book: 0 or the number of its refusal, and the settings.
+// Kept: the C interface has this struct; the calls themselves give a Result.
 #[repr(C)]
 #[derive(Clone, Copy)]
 pub struct Answer {
@@ -32,11 +37,16 @@ pub struct Answer {
     pub settings: Settings,
 }
 
-// Where a meter's row stands or is to stand, counted in rows, and whether it is there.
-#[derive(Clone, Copy)]
-pub struct Place {
-    pub index: usize,
-    pub known: bool,
+impl Answer {
+    // The answer to a call that was handed these settings. On a refusal they are handed back as given.
+    pub fn of(settings: Settings, outcome: Result<Settings, Refusal>) -> Answer
+        ensures { result ≡ answer_of settings outcome }
+    {
+        Answer {
+            number: number_given(&outcome),
+            settings: outcome.unwrap_or(settings),
+        }
+    }
 }
 
 // One of the four settings that a call replaces, with its new value.
@@ -48,28 +58,19 @@ pub enum Setting {
     GroupTake(i64),
 }
 
-// What a register call asks for: whether its arguments are in range, and the word to store (0 if they are not).
-#[derive(Clone, Copy)]
-pub struct Asked {
-    pub ok: bool,
-    pub word: u64,
-}
-
-// What a meter holds: words 1 and 2 of its row, or nothing (both 0) where it has none.
+// What a meter holds: words 1 and 2 of its row.
 #[derive(Clone, Copy)]
 pub struct Held {
-    pub known: bool,
     pub registration: u64,
     pub reading: u64,
 }
 
-// What storing a registration or a reading gives: the number, how many meters there are then, and what the meter held before and
-// holds after, so that a caller can work out the change. A refusal changes nothing, and tells nothing held on both sides.
+// What storing a registration or a reading gives: how many meters there are then, and what the meter held before, if it had a row, and
+// holds after, so that a caller can work out the change.
 #[derive(Clone, Copy)]
 pub struct Stored {
-    pub number: u64,
     pub meters: usize,
-    pub before: Held,
+    pub before: Option<Held>,
     pub after: Held,
 }
 
@@ -93,6 +94,7 @@ impl Settings {
     pub const TAKE_MAX: i64 = 5_000_000_000;
 
     // The two numbers that the flag of the Take may be.
+    // Kept: numbers, and no bool, since the flag is a number in the C interface.
     pub const TAKE_FLAG_UNSET: u32 = 0;
 
     pub const TAKE_FLAG_SET: u32 = 1;
@@ -109,5 +111,12 @@ impl Settings {
             take_set: Self::TAKE_FLAG_UNSET,
             take_wh: 0,
         }
+    }
+
+    // The settings with another number of meters.
+    pub fn with_meters(self, meters: usize) -> Settings
+        ensures { result ≡ with_meters meters self }
+    {
+        Settings { meters, ..self }
     }
 }

@@ -1,9 +1,13 @@
 -- What a call answers: on an ill-formed book, and where a setting was replaced, or a registration or a reading stored, in a well-formed one.
 use Prim.Native.Nat.{ℕ, zero, suc}
-use mathlib.Core.Path.{◌≡◌, refl, ap}
+use mathlib.Core.Path.{◌≡◌, refl, ◌∙◌, ap}
 use mathlib.Core.Bool.{true, false}
 use mathlib.Core.List.{List}
+use native.Mathlib.Omega.{arith}
+use Rattle.std.specs.Prelude.{Result, Ok, Err}
+use Rattle.refusals.specs.declared.Refusal.{Refusal}
 use Rattle.refusals.specs.Causes.{book_ill_formed}
+use Rattle.refusals.proofs.Numbers.{not-accepted}
 use Rattle.words.specs.declared.Registration.{Registration}
 use Rattle.words.specs.declared.Reading.{Reading}
 use Rattle.words.specs.Registration.{registration_word}
@@ -11,14 +15,12 @@ use Rattle.words.specs.Reading.{reading_word}
 use Rattle.words.proofs.Tests.{by-test}
 use Rattle.book.specs.declared.Settings.{Settings}
 use Rattle.book.specs.declared.Setting.{Setting}
-use Rattle.book.specs.declared.Answer.{Answer}
 use Rattle.book.specs.declared.Stored.{Stored}
 use Rattle.book.specs.Settings.{with_meters, setting_in_range, setting_cause}
-use Rattle.book.specs.Rows.{Row, capacity, rows_of, with_registration, with_reading, written}
+use Rattle.book.specs.Rows.{Row, capacity, rows_of, with_registration, with_reading}
 use Rattle.book.specs.Book.{Book, lent, used_rows, well_formed, with_rows}
 use Rattle.book.specs.Store.{registration_cause, reading_cause}
-use Rattle.book.specs.Helpers.{storing, registration_storing, reading_storing, stored_by, stored_of, Stores, setting_replaced}
-use Rattle.book.proofs.RowsOf.{length-rows}
+use Rattle.book.specs.Helpers.{Storing, storing, registration_storing, reading_storing, Stores, setting_replaced, answer_of}
 use Rattle.book.proofs.WellFormed.{room, rows-ready}
 use Rattle.book.proofs.Written.{written_same}
 use Rattle.calls.specs.declared.Call.{Call}
@@ -36,7 +38,7 @@ gives-ill-formed s words h c = rw (call-on-ill-formed (lent s words) h c) (recor
 
 module _ (s : Settings) (words : List ℕ) (wf : well_formed (lent s words) ≡ true) where
   -- a setting replaced
-  pub gives-replaced : (x : Setting) {answer : Answer} → answer ≡ setting_replaced x s → Gives (call_outcome (lent s words) (Set x)) answer words
+  pub gives-replaced : (x : Setting) {result : Result Settings Refusal} → result ≡ setting_replaced x s → Gives (call_outcome (lent s words) (Set x)) (answer_of s result) words
   unfolding call_outcome call_cause cause_after_test book_made setting_cause setting_replaced outcome
   gives-replaced x e =
       by-test (setting_in_range x)
@@ -44,26 +46,31 @@ module _ (s : Settings) (words : List ℕ) (wf : well_formed (lent s words) ≡ 
       (λ h. rw (e, wf, h) (record { number = refl; settings = refl; rows = refl }))
 
   -- what was stored, by its cause
-  by-cause : (cause m : ℕ) (made : List Row) → let o = storing cause made (rows_of s.meters words) in
-      Gives (outcome cause (with_rows made (lent s words)) (lent s words)) (answer_counted s (stored_of m (rows_of s.meters words) o)) (written o.rows words)
-  unfolding storing stored_by outcome
-  by-cause zero m made = record { number = refl; settings = refl; rows = refl }
-  by-cause (suc k) m made =
+  by-cause : (cause m : ℕ) (made : List Row) (stored : Result Stored Refusal) {words_after : List ℕ} {store : List Row → Storing}
+      → store (rows_of s.meters words) ≡ storing cause made (rows_of s.meters words) → Stores m store s.meters words stored words_after
+      → Gives (outcome cause (with_rows made (lent s words)) (lent s words)) (answer_counted s stored) words_after
+  unfolding storing outcome
+  by-cause zero m made (Ok told-so) e x =
+      let told = rw e at x.told in
+      record { number = refl; settings = ap (λ (n : ℕ). with_meters n s) told.meters; rows = rw e at x.slice }
+  by-cause zero m made (Err refusal) e x = absurd (not-accepted refusal (rw e at x.number))
+  by-cause (suc k) m made (Ok told-so) e x = let n = rw e at x.number in absurd (omega arith)
+  by-cause (suc k) m made (Err refusal) e x =
       record {
-        number = refl;
-        settings = ap (λ (n : ℕ). with_meters n s) (length-rows s.meters words);
-        rows = written_same s.meters words (room words s.meters (rows-ready s words wf).within-capacity);
+        number = rw e at x.number;
+        settings = refl;
+        rows = (rw e at x.slice) ∙ written_same s.meters words (room words s.meters (rows-ready s words wf).within-capacity);
       }
 
-  module _ (m : ℕ) {stored : Stored} {words_after : List ℕ} where
+  module _ (m : ℕ) {stored : Result Stored Refusal} {words_after : List ℕ} where
     pub gives-registered : (r : Registration) → Stores m (registration_storing (capacity words) m r) s.meters words stored words_after → Gives (call_outcome (lent s words) (Register m r)) (answer_counted s stored) words_after
     unfolding call_outcome call_cause cause_after_test book_made registration_storing used_rows
     gives-registered r x =
         let rows = rows_of s.meters words in
-        rw (wf, x.answer, x.slice) (by-cause (registration_cause (capacity words) m r rows) m (with_registration m (registration_word r) rows))
+        rw wf (by-cause (registration_cause (capacity words) m r rows) m (with_registration m (registration_word r) rows) stored refl x)
 
     pub gives-recorded : (r : Reading) → Stores m (reading_storing m r) s.meters words stored words_after → Gives (call_outcome (lent s words) (Record m r)) (answer_counted s stored) words_after
     unfolding call_outcome call_cause cause_after_test book_made reading_storing used_rows
     gives-recorded r x =
         let rows = rows_of s.meters words in
-        rw (wf, x.answer, x.slice) (by-cause (reading_cause m r rows) m (with_reading m (reading_word r) rows))
+        rw wf (by-cause (reading_cause m r rows) m (with_reading m (reading_word r) rows) stored refl x)

@@ -10,7 +10,9 @@ use Rattle.words.specs.Registration.{without_charges}
 use Rattle.words.proofs.Charges.{segment-kept, direction-kept, status-kept, category-kept, llf-kept, unit_kept}
 use Rattle.book.specs.Limits.{classes}
 use Rattle.book.specs.Rows.{Row, row_without_charges}
-use Rattle.cells.specs.Energy.{Source, actual_reading, estimated_reading, shape_default, no_energy, source_of, energy_from, energy_wh, lacks_shape_from, lacks_shape, any_lacks_shape, Counts, count_for, add_counts, counts_of}
+use Rattle.cells.specs.declared.Source.{Source}
+use Rattle.cells.specs.declared.Source.TheVariants.{Actual, Estimated, Defaulted, Idle}
+use Rattle.cells.specs.Energy.{source_of, energy_from, energy_wh, lacks_shape_from, lacks_shape, any_lacks_shape, Counts, count_for, add_counts, counts_of}
 use Rattle.cells.specs.Cells.{consumption_class, in_cell, energy_in, loss_thousandths, loss_in, sum_over, is_loss_class, consumption_cell, loss_cell, cell, count_from, cells_of}
 
 -- what one meter gives, of its two words
@@ -30,10 +32,10 @@ module _ (w reading : ℕ) where
   module _ (shapes : List ℕ) where
     energy-from-kept : (x : Source) → energy_from shapes (without_charges w) reading x ≡ energy_from shapes w reading x
     unfolding energy_from
-    energy-from-kept actual_reading = refl
-    energy-from-kept estimated_reading = refl
-    energy-from-kept shape_default = rw (category-kept w)
-    energy-from-kept no_energy = refl
+    energy-from-kept Actual = refl
+    energy-from-kept Estimated = refl
+    energy-from-kept Defaulted = rw (category-kept w)
+    energy-from-kept Idle = refl
 
     energy-kept : energy_wh shapes (without_charges w) reading ≡ energy_wh shapes w reading
     unfolding energy_wh
@@ -41,10 +43,10 @@ module _ (w reading : ℕ) where
 
     lacks-from-kept : (x : Source) → lacks_shape_from shapes (without_charges w) x ≡ lacks_shape_from shapes w x
     unfolding lacks_shape_from
-    lacks-from-kept actual_reading = refl
-    lacks-from-kept estimated_reading = refl
-    lacks-from-kept shape_default = rw (category-kept w)
-    lacks-from-kept no_energy = refl
+    lacks-from-kept Actual = refl
+    lacks-from-kept Estimated = refl
+    lacks-from-kept Defaulted = rw (category-kept w)
+    lacks-from-kept Idle = refl
 
     lacks-kept : lacks_shape shapes (without_charges w) reading ≡ lacks_shape shapes w reading
     lacks-kept = rw (source-kept, lacks-from-kept (source_of w reading))

@@ -5,17 +5,19 @@ use mathlib.Core.List.{List, [], ◌∷◌}
 use native.Mathlib.Omega.{arith}
 use lib.ListN.{length}
 use Rattle.book.specs.Rows.{Row}
-use Rattle.cells.specs.Energy.{Source, actual_reading, estimated_reading, shape_default, no_energy, source_of, Counts, count_for, counts_of}
+use Rattle.cells.specs.declared.Source.{Source}
+use Rattle.cells.specs.declared.Source.TheVariants.{Actual, Estimated, Defaulted, Idle}
+use Rattle.cells.specs.Energy.{source_of, Counts, count_for, counts_of}
 
 abbrev pub in_all : Counts → ℕ
 in_all c = c.actual + c.estimated + c.defaulted + c.idle
 
 one_each : (x : Source) → in_all (count_for x) ≡ 1
 unfolding count_for
-one_each actual_reading = omega arith
-one_each estimated_reading = omega arith
-one_each shape_default = omega arith
-one_each no_energy = omega arith
+one_each Actual = omega arith
+one_each Estimated = omega arith
+one_each Defaulted = omega arith
+one_each Idle = omega arith
 
 pub counts-total : (meters : List Row) → in_all (counts_of meters) ≡ length meters
 unfolding counts_of

@@ -5,7 +5,7 @@ pub mod Permuted
 pub mod Entries
 pub mod Counting
 -- from meters to cells
-pub mod MissingShape
+pub mod Uses
 pub mod Tables
 pub mod SumOver
 pub mod SumBelow
@@ -16,5 +16,6 @@ pub mod AnyOrder
 pub mod Charges
 -- how large they can be
 pub mod RowBounds
+pub mod Turns
 pub mod Totals
 pub mod CellBounds

@@ -1,47 +1,35 @@
 -- One more meter after the others: what it adds to the cells, the four counts and the missing shapes.
-use Prim.Native.Nat.{ℕ, suc, ◌+◌, ◌*◌, ◌-◌, ◌%◌, ◌≤◌, ◌<◌}
+use Prim.Native.Nat.{ℕ, ◌+◌, ◌-◌, ◌%◌, ◌≤◌, ◌<◌}
 use mathlib.Core.Path.{◌≡◌, refl, sym, ◌∙◌, ap}
 use mathlib.Core.Bool.{Bool, true, false, ◌&&◌, ◌||◌, cond, or-false, or_assoc}
 use mathlib.Core.List.{List, [], ◌∷◌, ◌++◌}
 use native.Mathlib.Nat.{add-zero}
-use native.Mathlib.Numerals.{add-one}
 use native.Mathlib.Omega.{arith}
 use borrow.Author.Tests.{eqb-true, eqb-false, eq-eqb, ne_eqb}
 use lib.Dec.{eqb}
 use lib.IntN.{ℤ, pos, ◌+ℤ◌, +ℤ_idl, +ℤ_idr, +ℤ_assoc}
 use lib.ListN.{length, get_or, set}
-use lib.Seq.{take-suc}
-use Rattle.words.specs.Registration.{unit_of}
+use Rattle.words.specs.Registration.{llf_of, unit_of}
 use Rattle.words.proofs.Tests.{same_test}
 use Rattle.words.proofs.RegistrationWord.{unit-bound}
 use Rattle.book.specs.Limits.{classes}
-use Rattle.book.specs.Rows.{Row, first_row, rows_of}
-use Rattle.book.proofs.RowsOf.{row_at, length-rows, take-rows, row-of}
-use Rattle.cells.specs.Energy.{Source, actual_reading, estimated_reading, shape_default, no_energy, source_of, any_lacks_shape, Counts, count_for, add_counts, counts_of, energy_wh, lacks_shape}
-use Rattle.cells.specs.Cells.{consumption_class, is_loss_class, in_cell, loss_thousandths, units, estimate_bit}
-use Rattle.cells.specs.Helpers.{source_number, count_list, raw_cell, table_of, added, amount_in, estimate_of}
-use Rattle.cells.proofs.Tables.{tables_agree, added-table, amount_at}
+use Rattle.book.specs.Rows.{Row}
+use Rattle.cells.specs.declared.Source.{Source}
+use Rattle.cells.specs.declared.Source.TheVariants.{Actual, Estimated, Defaulted, Idle}
+use Rattle.cells.specs.Energy.{source_of, any_lacks_shape, Counts, count_for, add_counts, counts_of, energy_wh, lacks_shape}
+use Rattle.cells.specs.Cells.{consumption_class, is_loss_class, in_cell, loss_thousandths, units}
+use Rattle.cells.specs.Helpers.{source_number, count_list, raw_cell, table_of, increased, added, amount_in, with_meter}
+use lib.Seq.{get_or-set_same, set-set}
+use Rattle.cells.proofs.Tables.{table-sized, tables_agree, added-table, amount_at}
 use Rattle.cells.proofs.Counted.{counts-total}
 use Rattle.cells.proofs.SumOver.{sum-over-last}
-
--- the first i + 1 rows of a slice
-pub rows_more : (i : ℕ) (words : List ℕ) → rows_of (i + 1) words ≡ rows_of i words ++ (row_at words (3 * i) ∷ [])
-rows_more i words =
-    rw add-one
-    (sym (take-rows (suc i) (suc i) words (omega arith))
-    ∙ take-suc (rows_of (suc i) words) i (first_row words) (rw length-rows (omega arith))
-    ∙ rw (take-rows i (suc i) words (omega arith), row-of (suc i) i words (first_row words) (omega arith)))
+use Rattle.cells.proofs.RowBounds.{class-even}
 
 -- cells
 
 pub raw-cell-more : (shapes : List ℕ) (meters : List Row) (r : Row) (unit class : ℕ) → raw_cell shapes (meters ++ (r ∷ [])) unit class ≡ raw_cell shapes meters unit class +ℤ amount_in shapes unit class r.registration r.reading
 unfolding raw_cell
 raw-cell-more shapes meters r unit class = sum-over-last (amount_in shapes unit class) meters r
-
--- the consumption class of a meter is even
-class-even : (registration reading : ℕ) → consumption_class registration reading % 2 ≡ 0
-unfolding consumption_class
-class-even registration reading = omega arith
 
 -- the class after k is j exactly if k is the class before j
 class-after : (k j : ℕ) → j % 2 ≡ 1 → eqb (k + 1) j ≡ eqb k (j - 1)
@@ -75,6 +63,10 @@ unfolding amount_in in_cell
 amounts shapes registration reading unit class =
     two-classes (eqb (unit_of registration) unit) (consumption_class registration reading) class (pos (energy_wh shapes registration reading)) (loss_thousandths shapes registration reading) (class-even registration reading)
 
+-- an amount added to two cells of a unit
+added-twice : (table : List (List ℤ)) (unit k j : ℕ) (a b : ℤ) → unit < length table → added (added table unit k a) unit j b ≡ set table unit (increased (increased (get_or table unit []) k a) j b)
+added-twice table unit k j a b h = rw (get_or-set_same table unit (increased (get_or table unit []) k a) [] h, set-set)
+
 module _ (shapes : List ℕ) (meters : List Row) (r : Row) where
   abbrev unit_in : ℕ
   unit_in = unit_of r.registration
@@ -88,7 +80,7 @@ module _ (shapes : List ℕ) (meters : List Row) (r : Row) where
   abbrev loss : ℤ
   loss = loss_thousandths shapes r.registration r.reading
 
-  pub table_more : class_in + 1 < classes → added (added (table_of (raw_cell shapes meters)) unit_in class_in energy) unit_in (class_in + 1) loss ≡ table_of (raw_cell shapes (meters ++ (r ∷ [])))
+  table_more : class_in + 1 < classes → added (added (table_of (raw_cell shapes meters)) unit_in class_in energy) unit_in (class_in + 1) loss ≡ table_of (raw_cell shapes (meters ++ (r ∷ [])))
   table_more k =
       let h : unit_in < units = omega (arith, unit-bound r.registration) in
       let f = raw_cell shapes meters in
@@ -99,6 +91,15 @@ module _ (shapes : List ℕ) (meters : List Row) (r : Row) where
       +ℤ_assoc (f v j) (amount_at unit_in class_in energy v j) (amount_at unit_in (class_in + 1) loss v j)
       ∙ ap (λ z. f v j +ℤ z) (amounts shapes r.registration r.reading v j)
       ∙ sym (raw-cell-more shapes meters r v j))
+
+  -- as the code adds it, to the cells of its unit
+  pub meter-more : class_in + 1 < classes → let table = table_of (raw_cell shapes meters) in
+      set table unit_in (with_meter (get_or table unit_in []) class_in (energy_wh shapes r.registration r.reading) (llf_of r.registration)) ≡ table_of (raw_cell shapes (meters ++ (r ∷ [])))
+  unfolding with_meter
+  meter-more k =
+      let table = table_of (raw_cell shapes meters) in
+      let h : unit_in < length table = omega (arith, unit-bound r.registration, (table-sized (raw_cell shapes meters)).rows_long) in
+      sym (added-twice table unit_in class_in (class_in + 1) energy loss h) ∙ table_more k
 
 -- missing shapes
 
@@ -118,46 +119,18 @@ unfolding counts_of
 counts-more [] r = counts-eq _ _ (omega arith) (omega arith) (omega arith) (omega arith)
 counts-more (m ∷ meters) r = rw (counts-more meters r) (counts-eq _ _ (omega arith) (omega arith) (omega arith) (omega arith))
 
-pub number_bound : (s : Source) → source_number s < 4
-number_bound actual_reading = omega arith
-number_bound estimated_reading = omega arith
-number_bound shape_default = omega arith
-number_bound no_energy = omega arith
-
--- e of a class, by the number
-pub estimate-number : (s : Source) → estimate_of (source_number s) ≡ estimate_bit s
-unfolding estimate_bit
-estimate-number actual_reading = refl
-estimate-number estimated_reading = refl
-estimate-number shape_default = refl
-estimate-number no_energy = refl
-
--- e as the code decides it, by its test of the source
-pub estimate-zero : (from : ℕ) {e : ℕ} → e ≡ 0 → from ≡ 0 → e ≡ estimate_of from
-estimate-zero from z s = z ∙ rw (eq-eqb from 0 s)
-
-pub estimate-one : (from : ℕ) {e : ℕ} → e ≡ 1 → (from ≡ 0 → ⊥) → e ≡ estimate_of from
-estimate-one from z s = z ∙ rw (ne_eqb from 0 s)
-
-pub estimate-few : (from : ℕ) → estimate_of from ≤ 1
-estimate-few from = by (eqb from 0)
-  where
-    by : (t : Bool) → cond t 0 1 ≤ 1
-    by true = omega arith
-    by false = omega arith
-
 pub count-bound : (meters : List Row) (s : Source) → get_or (count_list (counts_of meters)) (source_number s) 0 ≤ length meters
-count-bound meters actual_reading = omega (arith, counts-total meters)
-count-bound meters estimated_reading = omega (arith, counts-total meters)
-count-bound meters shape_default = omega (arith, counts-total meters)
-count-bound meters no_energy = omega (arith, counts-total meters)
+count-bound meters Actual = omega (arith, counts-total meters)
+count-bound meters Estimated = omega (arith, counts-total meters)
+count-bound meters Defaulted = omega (arith, counts-total meters)
+count-bound meters Idle = omega (arith, counts-total meters)
 
 one-stored : (x : Counts) (s : Source) → count_list (add_counts x (count_for s)) ≡ set (count_list x) (source_number s) (get_or (count_list x) (source_number s) 0 + 1)
 unfolding count_for
-one-stored x actual_reading = simp add-zero
-one-stored x estimated_reading = simp add-zero
-one-stored x shape_default = simp add-zero
-one-stored x no_energy = simp add-zero
+one-stored x Actual = simp add-zero
+one-stored x Estimated = simp add-zero
+one-stored x Defaulted = simp add-zero
+one-stored x Idle = simp add-zero
 
 -- as the list of four numbers: the count of the meter's source is one more
 pub counts-stored : (meters : List Row) (r : Row) → let counts = count_list (counts_of meters) in let from = source_number (source_of r.registration r.reading) in count_list (counts_of (meters ++ (r ∷ []))) ≡ set counts from (get_or counts from 0 + 1)

@@ -11,14 +11,16 @@ use borrow.Author.Tests.{leb-true}
 use Rattle.integers.proofs.Linear.{linear, minus, size, one_side}
 use Rattle.integers.proofs.Size.{size-times}
 use Rattle.words.specs.Registration.{direction_of, llf_of}
-use Rattle.words.proofs.RegistrationWord.{well-formed-bounds}
+use Rattle.words.proofs.RegistrationWord.{well-formed-bounds, unit-bound}
 use Rattle.words.proofs.ReadingWord.{reading-word-bounds}
 use Rattle.book.specs.Limits.{classes, shape_most, shape_missing}
 use Rattle.book.specs.Settings.{is_shape, all_of}
 use Rattle.book.specs.Rows.{Row, rows_formed}
 use Rattle.book.proofs.AllOf.{entry-passes}
 use Rattle.book.proofs.Rising.{Words, formed-first}
-use Rattle.cells.specs.Energy.{Source, actual_reading, estimated_reading, shape_default, no_energy, source_of, shape_of, shape_wh, energy_from, energy_wh}
+use Rattle.cells.specs.declared.Source.{Source}
+use Rattle.cells.specs.declared.Source.TheVariants.{Actual, Estimated, Defaulted, Idle}
+use Rattle.cells.specs.Energy.{source_of, shape_of, shape_wh, energy_from, energy_wh}
 use Rattle.cells.specs.Cells.{estimate_bit, consumption_class, loss_thousandths}
 use Rattle.cells.proofs.Each.{Each, no-entry, entry}
 
@@ -44,12 +46,15 @@ loss-most llf e h =
     let k : nat_abs z ≤ 1000 = omega (linear, size z, one_side z, minus (pos llf) (pos 1000)) in
     rw (size-times z (pos e)) (mul-le-mul_right e k)
 
-estimate-most : (x : Source) → estimate_bit x ≤ 1
+pub estimate-most : (x : Source) → estimate_bit x ≤ 1
 unfolding estimate_bit
-estimate-most actual_reading = omega arith
-estimate-most estimated_reading = omega arith
-estimate-most shape_default = omega arith
-estimate-most no_energy = omega arith
+estimate-most Actual = omega arith
+estimate-most Estimated = omega arith
+estimate-most Defaulted = omega arith
+estimate-most Idle = omega arith
+
+-- how small these numbers are, for the check to cite
+pub ruleset few = (estimate-most, unit-bound)
 
 -- the class of a meter's consumption is even, and of its direction
 module _ (registration reading : ℕ) where
@@ -65,10 +70,10 @@ module _ (shapes : List ℕ) (formed : all_of is_shape shapes ≡ true) where
   module _ (r : Row) (words : Words r) where
     energy-most : (x : Source) → energy_from shapes r.registration r.reading x ≤ 10000000
     unfolding energy_from
-    energy-most actual_reading = (reading-word-bounds r.reading words.reading-formed).0
-    energy-most estimated_reading = (reading-word-bounds r.reading words.reading-formed).0
-    energy-most shape_default = shape-most (shape_of shapes r.registration) (entry-passes is_shape shapes _ shape_missing formed refl)
-    energy-most no_energy = omega arith
+    energy-most Actual = (reading-word-bounds r.reading words.reading-formed).0
+    energy-most Estimated = (reading-word-bounds r.reading words.reading-formed).0
+    energy-most Defaulted = shape-most (shape_of shapes r.registration) (entry-passes is_shape shapes _ shape_missing formed refl)
+    energy-most Idle = omega arith
 
     row-bounds : RowBounds shapes r
     unfolding energy_wh consumption_class

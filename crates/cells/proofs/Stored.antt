@@ -9,6 +9,10 @@ use lib.Dec.{eqb}
 use lib.IntN.{ℤ, pos, ◌+ℤ◌, ◌-ℤ◌}
 use Rattle.integers.specs.Sum.{sum}
 use Rattle.integers.proofs.Linear.{linear, plus, minus}
+use Rattle.std.specs.Prelude.{None, Result, Ok, Err, IfOk}
+use Rattle.refusals.specs.declared.Refusal.{Refusal}
+use Rattle.refusals.specs.Refusal.{number_given}
+use Rattle.refusals.proofs.Numbers.{not-accepted}
 use Rattle.words.specs.declared.Registration.{Registration}
 use Rattle.words.specs.declared.Reading.{Reading}
 use Rattle.words.specs.Registration.{registration_word}
@@ -16,14 +20,15 @@ use Rattle.words.specs.Reading.{reading_word}
 use Rattle.words.proofs.Tests.{by-test}
 use Rattle.book.specs.Rows.{Row, rows_formed, is_known, new_row, with_registration, with_reading}
 use Rattle.book.specs.Store.{registration_cause, reading_cause}
-use Rattle.book.specs.Helpers.{row, held_in, storing, registration_storing, reading_storing, stored_by, stored_of}
+use Rattle.book.specs.declared.Stored.{Stored}
+use Rattle.book.specs.Helpers.{row, held_in, storing, registration_storing, reading_storing, Tells}
 use Rattle.book.proofs.Rising.{formed-first}
 use Rattle.book.proofs.PlaceOf.{by-mpan, first_above}
 use Rattle.book.proofs.WithRegistration as registration
 use Rattle.book.proofs.WithReading as reading
 use Rattle.book.proofs.HeldIn.{held_next, held-here, held_none}
 use Rattle.cells.specs.Cells.{sum_over}
-use Rattle.cells.specs.Helpers.{held_gives}
+use Rattle.cells.specs.Helpers.{held_gives, held_before, held_after}
 use Rattle.cells.proofs.SumOver.{sum-over-added, sum-over-changed}
 
 -- the same change behind one row more
@@ -31,9 +36,10 @@ behind : (x s h k t : ℤ) → t ≡ s -ℤ h +ℤ k → x +ℤ t ≡ x +ℤ s -
 behind x s h k t e =
     omega (linear, e, plus x t, plus x s, minus s h, plus (s -ℤ h) k, minus (x +ℤ s) h, plus (x +ℤ s -ℤ h) k)
 
--- nothing held, and nothing changed
-unchanged : (s : ℤ) → s ≡ s -ℤ pos 0 +ℤ pos 0
-unchanged s = omega (linear, minus s (pos 0), plus (s -ℤ pos 0) (pos 0))
+-- nothing changed, where nothing is told
+unchanged : (f : ℕ → ℕ → ℤ) (s : ℤ) → s ≡ s -ℤ held_gives f None +ℤ held_gives f None
+unfolding held_gives
+unchanged f s = omega (linear, minus s (pos 0), plus (s -ℤ pos 0) (pos 0))
 
 none_before : (s k : ℤ) → s +ℤ k ≡ s -ℤ pos 0 +ℤ k
 none_before s k = omega (linear, plus s k, minus s (pos 0), plus (s -ℤ pos 0) k)
@@ -71,20 +77,27 @@ module _ (f : ℕ → ℕ → ℤ) where
       rw (registration.stored-before r rows m w b, held-here (new_row m w) (r ∷ rows) m refl, held_none m (r ∷ rows) (first_above before r rows m formed b))
       (sum-over-added f [] (new_row m w) (r ∷ rows) ∙ none_before (sum_over f (r ∷ rows)) (f w 0)))
 
-  -- by the cause, where the rows that are made change the sum so
-  by-cause : (cause m : ℕ) (made rows : List Row) → sum_over f made ≡ sum_over f rows -ℤ held_gives f (held_in m rows) +ℤ held_gives f (held_in m made)
-      → let o = storing cause made rows in sum_over f o.rows ≡ sum_over f rows -ℤ held_gives f (stored_of m rows o).before +ℤ held_gives f (stored_of m rows o).after
-  unfolding storing stored_by held_gives
-  by-cause zero m made rows e = e
-  by-cause (suc k) m made rows e = unchanged (sum_over f rows)
+  -- by what an outcome tells, where the rows that are made change the sum so
+  by-outcome : (cause m : ℕ) (made rows : List Row) (outcome : Result Stored Refusal)
+      → sum_over f made ≡ sum_over f rows -ℤ held_gives f (held_in m rows) +ℤ held_gives f (held_in m made)
+      → let o = storing cause made rows in number_given outcome ≡ o.number → IfOk outcome (Tells m rows o.rows)
+      → sum_over f o.rows ≡ sum_over f rows -ℤ held_gives f (held_before outcome) +ℤ held_gives f (held_after outcome)
+  unfolding storing
+  by-outcome zero m made rows (Ok stored) e number told = rw (told.before, told.after) e
+  by-outcome zero m made rows (Err refusal) e number told = absurd (not-accepted refusal number)
+  by-outcome (suc k) m made rows (Ok stored) e number told = absurd (omega (arith, number))
+  by-outcome (suc k) m made rows (Err refusal) e number told = unchanged f (sum_over f rows)
 
-  pub sum-registered : (capacity m : ℕ) (r : Registration) (rows : List Row) → rows_formed 0 rows ≡ true
-      → let o = registration_storing capacity m r rows in sum_over f o.rows ≡ sum_over f rows -ℤ held_gives f (stored_of m rows o).before +ℤ held_gives f (stored_of m rows o).after
+  -- of every outcome, as `Stores` tells of it: a refusal changes nothing
+  pub sum-registered : (capacity m : ℕ) (r : Registration) (rows : List Row) (outcome : Result Stored Refusal) → rows_formed 0 rows ≡ true
+      → let o = registration_storing capacity m r rows in number_given outcome ≡ o.number → IfOk outcome (Tells m rows o.rows)
+      → sum_over f o.rows ≡ sum_over f rows -ℤ held_gives f (held_before outcome) +ℤ held_gives f (held_after outcome)
   unfolding registration_storing
-  sum-registered capacity m r rows formed =
-      by-cause (registration_cause capacity m r rows) m (with_registration m (registration_word r) rows) rows (registered-changes 0 m (registration_word r) rows formed)
+  sum-registered capacity m r rows outcome formed =
+      by-outcome (registration_cause capacity m r rows) m (with_registration m (registration_word r) rows) rows outcome (registered-changes 0 m (registration_word r) rows formed)
 
-  pub sum-recorded : (m : ℕ) (r : Reading) (rows : List Row)
-      → let o = reading_storing m r rows in sum_over f o.rows ≡ sum_over f rows -ℤ held_gives f (stored_of m rows o).before +ℤ held_gives f (stored_of m rows o).after
+  pub sum-recorded : (m : ℕ) (r : Reading) (rows : List Row) (outcome : Result Stored Refusal)
+      → let o = reading_storing m r rows in number_given outcome ≡ o.number → IfOk outcome (Tells m rows o.rows)
+      → sum_over f o.rows ≡ sum_over f rows -ℤ held_gives f (held_before outcome) +ℤ held_gives f (held_after outcome)
   unfolding reading_storing
-  sum-recorded m r rows = by-cause (reading_cause m r rows) m (with_reading m (reading_word r) rows) rows (read-changes m (reading_word r) rows)
+  sum-recorded m r rows outcome = by-outcome (reading_cause m r rows) m (with_reading m (reading_word r) rows) rows outcome (read-changes m (reading_word r) rows)

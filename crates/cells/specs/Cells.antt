@@ -5,7 +5,9 @@ use Rattle.integers.specs.Rounding.{nearest_wh}
 use Rattle.words.specs.Registration.{segment_of, direction_of, llf_of, unit_of}
 use Rattle.book.specs.Limits.{classes}
 use Rattle.book.specs.Rows.{Row}
-use Rattle.cells.specs.Energy.{Source, actual_reading, estimated_reading, shape_default, no_energy, source_of, energy_wh}
+use Rattle.cells.specs.declared.Source.{Source}
+use Rattle.cells.specs.declared.Source.TheVariants.{Actual, Estimated, Defaulted, Idle}
+use Rattle.cells.specs.Energy.{source_of, energy_wh}
 
 -- "base unit in 5 [..] additional unit in 5": as many units as 5 bits tell apart
 abbrev pub units : ℕ
@@ -13,10 +15,10 @@ units = 32
 
 -- "e is 0" for an actual reading "and 1 for every other code and for a default"; an idle meter has no energy in any class
 unfoldable pub estimate_bit : Source → ℕ
-estimate_bit actual_reading = 0
-estimate_bit estimated_reading = 1
-estimate_bit shape_default = 1
-estimate_bit no_energy = 1
+estimate_bit Actual = 0
+estimate_bit Estimated = 1
+estimate_bit Defaulted = 1
+estimate_bit Idle = 1
 
 -- "Class N = 8 × segment + 4 × direction + 2 × e + l", with l = 0, of a registration
 abbrev pub class_of : ℕ → ℕ → ℕ

@@ -4,13 +4,8 @@ use Rattle.words.specs.Registration.{status_of, category_of}
 use Rattle.words.specs.Reading.{no_reading, consumption_of, quality_of, is_actual}
 use Rattle.book.specs.Limits.{shape_missing}
 use Rattle.book.specs.Rows.{Row}
-
--- where the energy of a meter comes from, as the four counts have it: "actual [..], estimated [..], defaulted, idle"
-pub data Source : Type 0 where
-  actual_reading : Source
-  estimated_reading : Source
-  shape_default : Source
-  no_energy : Source
+use Rattle.cells.specs.declared.Source.{Source}
+use Rattle.cells.specs.declared.Source.TheVariants.{Actual, Estimated, Defaulted, Idle}
 
 -- "status [..] (0 disconnected, 1 de-energised, 2 energised)"
 abbrev pub de_energised : ℕ
@@ -19,9 +14,11 @@ de_energised = 1
 abbrev pub energised : ℕ
 energised = 2
 
+-- `Source` is where the energy of a meter comes from, as the four counts have it: "actual [..], estimated [..], defaulted, idle"
+
 -- a reading in use, by its code: "e is 0 for codes 0–6 and 1 for every other code"; of E2 and E6 (document 02, request 2) "e becomes 0 for them, they count as actual"
 unfoldable pub reading_source : ℕ → Source
-reading_source word = cond (is_actual (quality_of word)) actual_reading estimated_reading
+reading_source word = cond (is_actual (quality_of word)) Actual Estimated
 
 -- "de-energised, its reading if the code is 0–6, E2 or E6, else none": if it is actual
 unfoldable pub used_de_energised : ℕ → Bool
@@ -31,8 +28,8 @@ used_de_energised word = not (eqb word no_reading) && is_actual (quality_of word
 unfoldable pub source_of : ℕ → ℕ → Source
 source_of registration reading =
     cond (eqb (status_of registration) energised)
-    (cond (eqb reading no_reading) shape_default (reading_source reading))
-    (cond (eqb (status_of registration) de_energised && used_de_energised reading) (reading_source reading) no_energy)
+    (cond (eqb reading no_reading) Defaulted (reading_source reading))
+    (cond (eqb (status_of registration) de_energised && used_de_energised reading) (reading_source reading) Idle)
 
 -- "the shape of its category"
 abbrev pub shape_of : List ℕ → ℕ → ℕ
@@ -44,20 +41,20 @@ shape_wh shape = cond (eqb shape shape_missing) 0 shape
 
 -- "The energy of a meter", in Wh, under these shapes, by where it comes from
 unfoldable pub energy_from : List ℕ → ℕ → ℕ → Source → ℕ
-energy_from shapes registration reading actual_reading = consumption_of reading
-energy_from shapes registration reading estimated_reading = consumption_of reading
-energy_from shapes registration reading shape_default = shape_wh (shape_of shapes registration)
-energy_from shapes registration reading no_energy = 0
+energy_from shapes registration reading Actual = consumption_of reading
+energy_from shapes registration reading Estimated = consumption_of reading
+energy_from shapes registration reading Defaulted = shape_wh (shape_of shapes registration)
+energy_from shapes registration reading Idle = 0
 
 unfoldable pub energy_wh : List ℕ → ℕ → ℕ → ℕ
 energy_wh shapes registration reading = energy_from shapes registration reading (source_of registration reading)
 
 -- "a defaulted meter's shape is missing"
 unfoldable pub lacks_shape_from : List ℕ → ℕ → Source → Bool
-lacks_shape_from shapes registration actual_reading = false
-lacks_shape_from shapes registration estimated_reading = false
-lacks_shape_from shapes registration shape_default = eqb (shape_of shapes registration) shape_missing
-lacks_shape_from shapes registration no_energy = false
+lacks_shape_from shapes registration Actual = false
+lacks_shape_from shapes registration Estimated = false
+lacks_shape_from shapes registration Defaulted = eqb (shape_of shapes registration) shape_missing
+lacks_shape_from shapes registration Idle = false
 
 abbrev pub lacks_shape : List ℕ → ℕ → ℕ → Bool
 lacks_shape shapes registration reading = lacks_shape_from shapes registration (source_of registration reading)
@@ -76,10 +73,10 @@ pub record Counts : Type 0 where
 
 -- what one meter counts
 unfoldable pub count_for : Source → Counts
-count_for actual_reading = record { actual = 1; estimated = 0; defaulted = 0; idle = 0 }
-count_for estimated_reading = record { actual = 0; estimated = 1; defaulted = 0; idle = 0 }
-count_for shape_default = record { actual = 0; estimated = 0; defaulted = 1; idle = 0 }
-count_for no_energy = record { actual = 0; estimated = 0; defaulted = 0; idle = 1 }
+count_for Actual = record { actual = 1; estimated = 0; defaulted = 0; idle = 0 }
+count_for Estimated = record { actual = 0; estimated = 1; defaulted = 0; idle = 0 }
+count_for Defaulted = record { actual = 0; estimated = 0; defaulted = 1; idle = 0 }
+count_for Idle = record { actual = 0; estimated = 0; defaulted = 0; idle = 1 }
 
 abbrev pub add_counts : Counts → Counts → Counts
 add_counts x y =

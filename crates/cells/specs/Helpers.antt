@@ -1,32 +1,39 @@
--- What the functions that gather the cells are held to: tables of cells, and numbers for where a meter's energy comes from.
-use Rattle.std.specs.Prelude.{ℕ, ◌+◌, ◌*◌, ◌-◌, ◌≤◌, ◌<◌, ◌≡◌, Bool, true, cond, List, [], ◌∷◌, map, ℤ, pos, nat_abs, ◌+ℤ◌, length, get_or, set, eqb}
+-- What the functions that gather the cells are held to: what a meter comes to, and tables of cells.
+use Rattle.std.specs.Prelude.{ℕ, ◌+◌, ◌*◌, ◌-◌, ◌≤◌, ◌<◌, ◌≡◌, Bool, true, cond, List, [], ◌∷◌, map, ℤ, pos, nat_abs, ◌+ℤ◌, ◌-ℤ◌, ◌*ℤ◌, length, get_or, set, eqb, Option, None, Some, unwrap_or, Result, Ok, Err}
+use Rattle.refusals.specs.declared.Refusal.{Refusal}
 use Rattle.book.specs.declared.Held.{Held}
-use Rattle.book.specs.Limits.{meters_most, classes, categories}
+use Rattle.book.specs.declared.Stored.{Stored}
+use Rattle.book.specs.Limits.{meters_most, classes, shape_missing}
 use Rattle.book.specs.Settings.{is_shape, all_of}
 use Rattle.book.specs.Rows.{Row, rows_of, rows_formed}
 use Rattle.cells.specs.declared.Use.{Use}
-use Rattle.cells.specs.Energy.{Source, actual_reading, estimated_reading, shape_default, no_energy, source_of, energy_wh, any_lacks_shape, Counts, counts_of, lacks_shape}
+use Rattle.cells.specs.declared.Source.{Source}
+use Rattle.cells.specs.declared.Source.TheVariants.{Actual, Estimated, Defaulted, Idle}
+use Rattle.cells.specs.Energy.{source_of, energy_wh, any_lacks_shape, Counts, counts_of, lacks_shape}
 use Rattle.cells.specs.Cells.{is_loss_class, count_from, units, energy_in, loss_in, sum_over}
 
--- the number of a source, in the order of the four counts
-abbrev pub source_number : Source → ℕ
-source_number actual_reading = 0
-source_number estimated_reading = 1
-source_number shape_default = 2
-source_number no_energy = 3
+-- a shape in Wh, if it is set
+abbrev pub shape_if_set : ℕ → Option ℕ
+shape_if_set shape = cond (eqb shape shape_missing) None (Some shape)
 
--- e of a class, by the number of a source
-abbrev pub estimate_of : ℕ → ℕ
-estimate_of from = cond (eqb from 0) 0 1
-
--- what a meter comes to under these shapes
+-- what a meter comes to under these shapes: no energy where it lacks its shape
 abbrev pub use_of : List ℕ → ℕ → ℕ → Use
 use_of shapes registration reading =
     record {
-      source = source_number (source_of registration reading);
-      wh = energy_wh shapes registration reading;
-      lacks = lacks_shape shapes registration reading;
+      source = source_of registration reading;
+      wh = cond (lacks_shape shapes registration reading) None (Some (energy_wh shapes registration reading));
     }
+
+-- the energy of such a use in Wh
+abbrev pub wh_of : Use → ℕ
+wh_of used = unwrap_or used.wh 0
+
+-- the number of a source, in the order of the four counts
+abbrev pub source_number : Source → ℕ
+source_number Actual = 0
+source_number Estimated = 1
+source_number Defaulted = 2
+source_number Idle = 3
 
 -- the four counts as a list
 abbrev pub count_list : Counts → List ℕ
@@ -45,19 +52,24 @@ raw_cell shapes meters unit class = sum_over (amount_in shapes unit class) meter
 unfoldable pub table_of : (ℕ → ℕ → ℤ) → List (List ℤ)
 table_of f = map (λ unit. map (f unit) (count_from 0 classes)) (count_from 0 units)
 
+-- a unit's cells with an amount added to one of them
+abbrev pub increased : List ℤ → ℕ → ℤ → List ℤ
+increased cells class amount = set cells class (get_or cells class (pos 0) +ℤ amount)
+
 -- a table with an amount added to one cell
 abbrev pub added : List (List ℤ) → ℕ → ℕ → ℤ → List (List ℤ)
-added table unit class amount = set table unit (set (get_or table unit []) class (get_or (get_or table unit []) class (pos 0) +ℤ amount))
+added table unit class amount = set table unit (increased (get_or table unit []) class amount)
 
--- what `add_meter` is held to: two cells of a unit, sizes of a meter, and cells far from the width's end
-pub record AddArguments (table : List (List ℤ)) (unit class wh llf : ℕ) : Type 0 where
-  pub unit-bound : unit < units
+-- a unit's cells with a meter added to them: its energy at its class, and its losses in thousandths of a Wh at the class after it
+unfoldable pub with_meter : List ℤ → ℕ → ℕ → ℕ → List ℤ
+with_meter cells class wh llf = increased (increased cells class (pos wh)) (class + 1) ((pos llf -ℤ pos 1000) *ℤ pos wh)
+
+-- what `add_meter` is held to: two classes, sizes of a meter, and cells far from the width's end
+pub record AddArguments (cells : List ℤ) (class wh llf : ℕ) : Type 0 where
   pub class-bound : class + 1 < classes
-  pub rows_long : length table ≡ units
-  pub row-long : length (get_or table unit []) ≡ classes
   pub wh-bound : wh ≤ 10000000
   pub llf-bound : llf ≤ 2000
-  pub cells-bound : (k : ℕ) → k < classes → nat_abs (get_or (get_or table unit []) k (pos 0)) ≤ 655360000000000
+  pub cells-bound : (k : ℕ) → k < classes → nat_abs (get_or cells k (pos 0)) ≤ 655360000000000
 
 -- an empty table
 abbrev pub empty_cell : ℕ → ℕ → ℤ
@@ -69,7 +81,6 @@ pub record GatherArguments (words : List ℕ) (n : ℕ) (shapes : List ℕ) (tab
   pub few : n ≤ meters_most
   pub rows-formed : rows_formed 0 (rows_of n words) ≡ true
   pub shapes-formed : all_of is_shape shapes ≡ true
-  pub shapes-long : length shapes ≡ categories
   pub cells-empty : table ≡ table_of empty_cell
   pub counts-empty : counts ≡ 0 ∷ 0 ∷ 0 ∷ 0 ∷ []
 
@@ -80,5 +91,15 @@ pub record Gathered (shapes : List ℕ) (meters : List Row) (table : List (List 
   pub lacks-is : lacks ≡ any_lacks_shape shapes meters
 
 -- what a meter that holds these words gives to a sum over the rows, and 0 for a meter that has no row
-unfoldable pub held_gives : (ℕ → ℕ → ℤ) → Held → ℤ
-held_gives f held = cond held.known (f held.registration held.reading) (pos 0)
+unfoldable pub held_gives : (ℕ → ℕ → ℤ) → Option Held → ℤ
+held_gives f None = pos 0
+held_gives f (Some held) = f held.registration held.reading
+
+-- what a meter held and holds, as an outcome of storing tells: nothing where it is a refusal
+abbrev pub held_before : Result Stored Refusal → Option Held
+held_before (Ok stored) = stored.before
+held_before (Err refusal) = None
+
+abbrev pub held_after : Result Stored Refusal → Option Held
+held_after (Ok stored) = Some stored.after
+held_after (Err refusal) = None

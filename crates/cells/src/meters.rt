@@ -1,119 +1,83 @@
 // The energy of a meter, and the class it goes to.
-ghost use Rattle.std.specs.Prelude.{◌≡◌, ◌≤◌, length};
-ghost use Rattle.book.specs.Limits.{categories};
-ghost use Rattle.cells.specs.Energy.{reading_source, used_de_energised, source_of, lacks_shape};
-ghost use Rattle.cells.specs.Cells.{class_of};
-ghost use Rattle.cells.specs.Helpers.{source_number, use_of};
+ghost use Rattle.std.specs.Prelude.{◌≡◌};
+ghost use Rattle.cells.specs.Energy.{used_de_energised, source_of, shape_of, lacks_shape};
+ghost use Rattle.cells.specs.Cells.{estimate_bit, class_of};
+ghost use Rattle.cells.specs.Helpers.{shape_if_set, use_of};
 
-use crate::Use;
-use book::formed::wide;
+use crate::{Source, Use};
+use words::field::Field;
 
-// Where a meter's energy comes from, in the order of the four counts.
-pub const ACTUAL: u64 = 0;
-
-pub const ESTIMATED: u64 = 1;
-
-pub const DEFAULTED: u64 = 2;
-
-pub const IDLE: u64 = 3;
-
+// Kept: a status is a number of `words::Registration`, which C programs write, and word 1 holds that number.
 const DE_ENERGISED: u64 = 1;
 
 pub const ENERGISED: u64 = 2;
 
-// Where the energy of a reading in use comes from, by its quality code.
-fn reading_source(reading: u64) -> u64
-    ensures { result ≡ source_number (reading_source reading) }
-{
-    if words::is_actual(words::quality(reading)) {
-        ACTUAL
-    } else {
-        ESTIMATED
-    }
-}
-
 // Whether a de-energised meter uses its reading: if there is one and its code is actual.
+#[tactic(auto, unfolding(crate::specs::Energy::used_de_energised))]
 fn used_de_energised(reading: u64) -> bool
     ensures { result ≡ used_de_energised reading }
 {
-    (reading != words::NO_READING) & words::is_actual(words::quality(reading))
+    (reading != words::NO_READING) & words::is_actual(Field::QUALITY.of(reading))
 }
 
 // Where a meter's energy comes from.
-pub fn source(registration: u64, reading: u64) -> u64
-    ensures { result ≡ source_number (source_of registration reading) }
+#[tactic(auto, unfolding(crate::specs::Energy::source_of, crate::specs::Energy::reading_source, crate::specs::Energy::used_de_energised))]
+pub fn source(registration: u64, reading: u64) -> Source
+    ensures { result ≡ source_of registration reading }
 {
-    let status = words::status(registration);
-    if status == ENERGISED {
-        if reading == words::NO_READING {
-            return DEFAULTED;
-        }
-        return reading_source(reading);
+    match Field::STATUS.of(registration) {
+        ENERGISED if reading == words::NO_READING => Source::Defaulted,
+        ENERGISED if words::is_actual(Field::QUALITY.of(reading)) => Source::Actual,
+        ENERGISED => Source::Estimated,
+        DE_ENERGISED if used_de_energised(reading) => Source::Actual,
+        _ => Source::Idle,
     }
-    if status == DE_ENERGISED {
-        if used_de_energised(reading) {
-            return reading_source(reading);
-        }
+}
+
+// The shape of a meter's category in Wh, if it is set.
+fn shape(shapes: &[u32; 64], registration: u64) -> Option<u64>
+    ensures { result ≡ shape_if_set (shape_of shapes.now registration) }
+{
+    // Kept: `as`, since there is no `From` of a u64 for an index.
+    let wh = u64::from(shapes[Field::CATEGORY.of(registration) as usize]);
+    if wh == book::Settings::SHAPE_MISSING {
+        None
+    } else {
+        Some(wh)
     }
-    IDLE
 }
 
 // Whether a meter is defaulted and its shape is missing: what `use_of` tells of it, for a caller that asks nothing else. Nearly every
 // meter has a reading, so that is looked at first.
+#[tactic(auto, unfolding(crate::specs::Energy::source_of, crate::specs::Energy::reading_source, crate::specs::Energy::lacks_shape_from))]
 pub fn lacks_shape(shapes: &[u32; 64], registration: u64, reading: u64) -> bool
-    requires { length shapes.now ≡ categories }
     ensures { result ≡ lacks_shape shapes.now registration reading }
 {
-    if reading != words::NO_READING {
-        return false;
-    }
-    if words::status(registration) != ENERGISED {
-        return false;
-    }
-    let category = words::category(registration) as usize;
-    wide(shapes[category]) == book::Settings::SHAPE_MISSING
+    reading == words::NO_READING
+        && Field::STATUS.of(registration) == ENERGISED
+        && shape(shapes, registration).is_none()
 }
 
 // What a meter comes to under these shapes.
+#[tactic(auto, unfolding(crate::specs::Energy::energy_wh, crate::specs::Energy::energy_from, crate::specs::Energy::shape_wh, crate::specs::Energy::lacks_shape_from))]
 pub fn use_of(shapes: &[u32; 64], registration: u64, reading: u64) -> Use
-    requires { length shapes.now ≡ categories }
     ensures { result ≡ use_of shapes.now registration reading }
 {
-    let from = source(registration, reading);
-    if from <= ESTIMATED {
-        return Use {
-            source: from,
-            wh: words::consumption(reading),
-            lacks: false,
-        };
-    }
-    if from == IDLE {
-        return Use {
-            source: from,
-            wh: 0,
-            lacks: false,
-        };
-    }
-    let category = words::category(registration) as usize;
-    let shape = wide(shapes[category]);
-    if shape == book::Settings::SHAPE_MISSING {
-        return Use {
-            source: from,
-            wh: 0,
-            lacks: true,
-        };
-    }
-    Use {
-        source: from,
-        wh: shape,
-        lacks: false,
-    }
+    let source = source(registration, reading);
+    let wh = match source {
+        Source::Actual | Source::Estimated => Some(Field::CONSUMPTION.of(reading)),
+        Source::Defaulted => shape(shapes, registration),
+        Source::Idle => Some(0),
+    };
+    Use { source, wh }
 }
 
-// The class of a meter's consumption, from its registration and e.
-pub fn class(registration: u64, e: u64) -> u64
-    requires { e ≤ 1 }
-    ensures { result ≡ class_of e registration }
+// The class of a meter's consumption, from its registration and where its energy comes from.
+#[tactic(auto, using(crate::proofs::RowBounds::few))]
+pub fn class(registration: u64, source: Source) -> u64
+    ensures { result ≡ class_of (estimate_bit source) registration }
 {
-    8 * words::segment(registration) + 4 * words::direction(registration) + 2 * e
+    8 * Field::SEGMENT.of(registration)
+        + 4 * Field::DIRECTION.of(registration)
+        + 2 * source.estimate_bit()
 }

@@ -1,9 +1,10 @@
 -- Laws of the correction, for this crate's functions and for the crates above.
 pub mod Filled
 -- from cells to sums
+pub mod Pairs
 pub mod RunningSums
 pub mod Sizes
-pub mod Pairs
+pub mod ChainSums
 -- the last watt-hours
 pub mod CountWhere
 pub mod Ranked
@@ -12,7 +13,8 @@ pub mod HandedOut
 pub mod Served
 pub mod RoundedVolumes
 pub mod Apportioned
-pub mod VolumesOf
+pub mod ShareSize
 pub mod Apportion
+pub mod VolumesOf
 -- the correction as one call
 pub mod Outcome

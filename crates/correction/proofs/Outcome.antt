@@ -1,5 +1,5 @@
 -- What a correction gives: its ways, one for each cause and one for acceptance, and that the volumes of an accepted one add up to the Take and are less than 1 Wh from the exact shares.
-use Prim.Native.Nat.{ℕ, zero, suc, ◌<◌}
+use Prim.Native.Nat.{ℕ, suc, ◌<◌}
 use mathlib.Core.Path.{◌≡◌, refl, sym, ap, ◌∙◌}
 use mathlib.Core.Bool.{true, false}
 use mathlib.Core.List.{List}
@@ -8,7 +8,11 @@ use lib.IntN.{ℤ, pos, nat_abs, ◌-ℤ◌, ◌*ℤ◌}
 use lib.ListN.{length, get_or, take, drop, get_or-append}
 use lib.Seq.{take_at}
 use lib.Signed.{◌<ℤ◌, lt_z}
-use Rattle.refusals.specs.Causes.{accepted, weighted_below_one, tolerance_exceeded}
+use Rattle.std.proofs.Common.{Ok, Err}
+use Rattle.refusals.specs.Causes.{accepted}
+use Rattle.refusals.specs.declared.Refusal.{Refusal}
+use Rattle.refusals.specs.declared.Refusal.TheVariants.{WeightedBelowOne, ToleranceExceeded}
+use Rattle.refusals.specs.Refusal.{number_of}
 use Rattle.refusals.proofs.Passed.{passed}
 use Rattle.integers.specs.Sum.{sum}
 use Rattle.integers.proofs.Linear.{linear}
@@ -18,7 +22,7 @@ use Rattle.correction.specs.declared.UnitSums.{UnitSums}
 use Rattle.correction.specs.declared.Corrected.{Corrected}
 use Rattle.correction.specs.Correction.{unallocated_of, weighted_total, exceeds_tolerance, sums_cause}
 use Rattle.correction.specs.Volumes.{volumes_of, with_volumes}
-use Rattle.correction.specs.Outcome.{uncorrected, corrected_by, correction_of, written_by, volumes_written, CorrectionGives}
+use Rattle.correction.specs.Outcome.{corrected_of, written_by, volumes_written, CorrectionGives}
 use Rattle.correction.proofs.Apportioned.{numerators_of}
 use Rattle.correction.proofs.VolumesOf.{volumes-length, volumes-total, volumes-distance}
 
@@ -28,41 +32,28 @@ module _ (take_wh : ℤ) (tolerance : ℕ) (sums : List UnitSums) where
   unfolding sums_cause
   above_zero h = omega (linear, lt-false (weighted_total sums) (pos 1) (passed _ _ _ h).0)
 
-  -- the number is the cause
-  pub correction-number : (correction_of take_wh tolerance sums).number ≡ sums_cause take_wh tolerance sums
-  unfolding correction_of corrected_by
-  correction-number = by (sums_cause take_wh tolerance sums)
-    where
-      by : (cause : ℕ) → (corrected_by cause take_wh sums).number ≡ cause
-      by zero = refl
-      by (suc k) = refl
-
   -- the ways, by the tests
   module _ (slice : List ℤ) where
-    refusal : (k : ℕ) → sums_cause take_wh tolerance sums ≡ suc k → CorrectionGives take_wh tolerance sums slice (uncorrected (suc k)) slice
-    unfolding correction_of corrected_by volumes_written written_by
-    refusal k h = record { answer = rw h; volumes = rw h }
+    refused : (r : Refusal) (k : ℕ) → number_of r ≡ suc k → sums_cause take_wh tolerance sums ≡ suc k → CorrectionGives take_wh tolerance sums slice (Err r) slice
+    unfolding volumes_written written_by
+    refused r k e h = record { number = e ∙ sym h; figures = tt; volumes = rw h }
 
-    pub way-below : lt_z (weighted_total sums) (pos 1) ≡ true → CorrectionGives take_wh tolerance sums slice (uncorrected weighted_below_one) slice
+    pub way-below : lt_z (weighted_total sums) (pos 1) ≡ true → CorrectionGives take_wh tolerance sums slice (Err WeightedBelowOne) slice
     unfolding sums_cause
-    way-below h = refusal 9 (rw h)
+    way-below h = refused WeightedBelowOne 9 refl (rw h)
 
     module _ (above : lt_z (weighted_total sums) (pos 1) ≡ false) where
-      pub way-exceeds : exceeds_tolerance tolerance (unallocated_of take_wh sums) (weighted_total sums) ≡ true → CorrectionGives take_wh tolerance sums slice (uncorrected tolerance_exceeded) slice
+      pub way-exceeds : exceeds_tolerance tolerance (unallocated_of take_wh sums) (weighted_total sums) ≡ true → CorrectionGives take_wh tolerance sums slice (Err ToleranceExceeded) slice
       unfolding sums_cause
-      way-exceeds h = refusal 10 (rw (above, h))
+      way-exceeds h = refused ToleranceExceeded 10 refl (rw (above, h))
 
-      pub way-accepted : {answer : Corrected} {after : List ℤ} → exceeds_tolerance tolerance (unallocated_of take_wh sums) (weighted_total sums) ≡ false
-          → answer ≡ record { number = accepted; unallocated = unallocated_of take_wh sums; weighted = weighted_total sums } → after ≡ with_volumes (volumes_of take_wh sums) slice
-          → CorrectionGives take_wh tolerance sums slice answer after
-      unfolding sums_cause correction_of corrected_by volumes_written written_by
-      way-accepted h e v = record { answer = rw (above, h) e; volumes = rw (above, h) v }
+      pub way-accepted : {x : Corrected} {after : List ℤ} → exceeds_tolerance tolerance (unallocated_of take_wh sums) (weighted_total sums) ≡ false
+          → x ≡ corrected_of take_wh sums → after ≡ with_volumes (volumes_of take_wh sums) slice → CorrectionGives take_wh tolerance sums slice (Ok x) after
+      unfolding sums_cause volumes_written written_by
+      way-accepted h e v = record { number = rw (above, h); figures = e; volumes = rw (above, h) v }
 
   -- an accepted correction
-  module _ (h : (correction_of take_wh tolerance sums).number ≡ accepted) (slice : List ℤ) where
-    no-cause : sums_cause take_wh tolerance sums ≡ accepted
-    no-cause = sym correction-number ∙ h
-
+  module _ (no-cause : sums_cause take_wh tolerance sums ≡ accepted) (slice : List ℤ) where
     pub corrected-slice : volumes_written take_wh tolerance sums slice ≡ with_volumes (volumes_of take_wh sums) slice
     unfolding volumes_written written_by
     corrected-slice = rw no-cause

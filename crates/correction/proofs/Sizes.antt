@@ -1,12 +1,12 @@
 -- The sizes of numbers, added up, as a bound of each and of their sum; and n and a of a unit within those of its cells.
 use Prim.Native.Nat.{ℕ, zero, suc, ◌+◌, ◌*◌, ◌≤◌}
-use mathlib.Core.Path.{◌≡◌, refl, ap}
+use mathlib.Core.Path.{◌≡◌, refl, sym, ap, ◌∙◌}
 use mathlib.Core.Bool.{true, and-eq-true_iff}
 use mathlib.Core.List.{List, [], ◌∷◌, map}
 use native.Mathlib.Omega.{arith}
 use native.Mathlib.Nat.{mul-le-mul_left}
 use lib.IntN.{ℤ, pos, nat_abs, ◌*ℤ◌}
-use lib.ListN.{get_or}
+use lib.ListN.{length, get_or, get_or-map}
 use borrow.Author.Tests.{leb-true}
 use Rattle.integers.specs.Sum.{sum}
 use Rattle.integers.proofs.Size.{size-plus, size-times}
@@ -27,6 +27,17 @@ unfolding sizes
 size-entry [] i = omega arith
 size-entry (x ∷ xs) zero = omega arith
 size-entry (x ∷ xs) (suc i) = omega (arith, size-entry xs i)
+
+-- the same of a number that each entry has
+pub size-figure : {A : Type 0} (figure : A → ℤ) (xs : List A) (i : ℕ) (d : A) → figure d ≡ pos 0 → nat_abs (figure (get_or xs i d)) ≤ sizes (map figure xs)
+size-figure figure xs i d none =
+    let e : get_or (map figure xs) i (pos 0) ≡ figure (get_or xs i d) = ap (get_or (map figure xs) i) (sym none) ∙ get_or-map figure xs i d in
+    rw (← e) (size-entry (map figure xs) i)
+
+pub sizes-most : (xs : List ℤ) (B : ℕ) → ((k : ℕ) → nat_abs (get_or xs k (pos 0)) ≤ B) → sizes xs ≤ length xs * B
+unfolding sizes
+sizes-most [] B h = omega arith
+sizes-most (x ∷ xs) B h = omega (arith, h 0, sizes-most xs B (λ k. h (suc k)))
 
 pub sizes-total : (f : ℕ → ℤ) (j n : ℕ) → sizes (map f (count_from j n)) ≡ total (λ i. nat_abs (f i)) j n
 unfolding sizes total count_from

@@ -15,7 +15,7 @@ use Rattle.integers.proofs.Linear.{linear, plus, minus}
 use Rattle.integers.proofs.Ring.{neg-minus}
 use Rattle.integers.proofs.Size.{size-positive, size-neg}
 use Rattle.integers.proofs.Floor.{fraction-below, above_floor, below_next}
-use Rattle.cells.proofs.Entries.{entry-map}
+use Rattle.std.proofs.lemmas.List.{get_or-map}
 use Rattle.correction.specs.declared.UnitSums.{UnitSums}
 use Rattle.correction.specs.Correction.{unallocated_of, weighted_total, share_numerator, share_floor, share_fraction}
 use Rattle.correction.specs.Volumes.{volumes_from, volumes_of}
@@ -24,7 +24,7 @@ use Rattle.correction.proofs.Ranked.{rank_of, ranks-exactly}
 use Rattle.correction.proofs.Served.{served-above-zero}
 use Rattle.correction.proofs.Apportioned.{numerators_of, floors_of, fractions_of, lack_of, lacking-is, lacking-fewer, fractions-total}
 use Rattle.correction.proofs.RoundedVolumes.{rounded-length, rounded-sum, volume-served, volume-unserved}
-use Rattle.correction.proofs.Pairs.{no_sums}
+use Rattle.correction.specs.Helpers.{no_sums}
 
 -- a W above 0 has a unit in it
 some-unit : (sums : List UnitSums) → pos 0 <ℤ weighted_total sums → 0 < length sums
@@ -100,13 +100,13 @@ module _ (take_wh : ℤ) (sums : List UnitSums) where
         k = omega (arith, fractions-length)
 
         floor-is : get_or (floors_of take_wh sums) i (pos 0) ≡ floor_of x (nat_abs w)
-        floor-is = entry-map (share_floor u w) sums i no_sums (pos 0) h
+        floor-is = get_or-map (share_floor u w) sums i no_sums (pos 0) h
 
         share-is : get_or (numerators_of take_wh sums) i (pos 0) ≡ x
-        share-is = entry-map (share_numerator u w) sums i no_sums (pos 0) h
+        share-is = get_or-map (share_numerator u w) sums i no_sums (pos 0) h
 
         fraction-is : get_or fs i 0 ≡ fraction_of x (nat_abs w)
-        fraction-is = entry-map (share_fraction u w) sums i no_sums 0 h
+        fraction-is = get_or-map (share_fraction u w) sums i no_sums 0 h
 
         above_zero : rank_of fs i < n → 0 < fraction_of x (nat_abs w)
         above_zero r =

@@ -1,77 +1,66 @@
 // The correction of the units' sums: U and W, the causes that rest on them, and the volumes.
 ghost use Rattle.std.specs.Prelude.{◌≡◌};
-ghost use Rattle.correction.specs.Outcome.{pairs_of, uncorrected, CorrectionGives};
+ghost use Rattle.correction.specs.Outcome.{corrected_of, CorrectionGives};
 ghost use Rattle.correction.specs.Correction.{exceeds_tolerance};
 ghost use Rattle.correction.specs.Volumes.{volumes_of};
-ghost use Rattle.correction.specs.Helpers.{ToleranceArguments, ApportionArguments, CorrectArguments};
+ghost use Rattle.correction.specs.Helpers.{SumsArguments, ToleranceArguments, ApportionArguments, CorrectArguments};
 
-use crate::Corrected;
 use crate::shares::{hand_out, share_down};
-use crate::sums::total;
-use integers::magnitude;
-use refusals::{ACCEPTED, TOLERANCE_EXCEEDED, WEIGHTED_BELOW_ONE};
+use crate::{Corrected, UnitSums};
+use refusals::Refusal;
 
-// Whether the size of U × 1,000,000 is above g × W.
-fn exceeds_tolerance(g: u32, u: i64, w: i64) -> bool
-    requires { ToleranceArguments g u w }
-    ensures { result ≡ exceeds_tolerance g u w }
-{
-    let most = g as u64 * magnitude(w);
-    most < magnitude(u) * 1_000_000
+impl Corrected {
+    // U and W of a Take and the sums of the 32 units.
+    fn of(take_wh: i64, sums: &[UnitSums; 32]) -> Corrected
+        requires { SumsArguments take_wh sums.now }
+        ensures { result ≡ corrected_of take_wh sums.now }
+    {
+        let net: i64 = sums.iter().map(|x| x.net).sum();
+        let weighted = sums.iter().map(|x| x.weighted).sum();
+        Corrected {
+            unallocated: take_wh - net,
+            weighted,
+        }
+    }
+
+    // Whether the size of U × 1,000,000 is above g × W.
+    fn exceeds(self, tolerance: u32) -> bool
+        requires { ToleranceArguments tolerance self }
+        ensures { result ≡ exceeds_tolerance tolerance self.unallocated self.weighted }
+    {
+        let most = u64::from(tolerance) * self.weighted.unsigned_abs();
+        most < self.unallocated.unsigned_abs() * 1_000_000
+    }
 }
 
 // The volumes of the 32 units into a part of 32 words: each share rounded down, and the Wh that lack handed out.
-fn apportion(
-    take_wh: i64,
-    u: i64,
-    w: i64,
-    nets: &[i64; 32],
-    weighted: &[i64; 32],
-    volumes: &mut [i64],
-)
-    requires { ApportionArguments take_wh u w nets.now weighted.now volumes.old }
-    ensures { volumes.new ≡ volumes_of take_wh (pairs_of nets.now weighted.now) }
+fn apportion(take_wh: i64, corrected: Corrected, sums: &[UnitSums; 32], volumes: &mut [i64])
+    requires { ApportionArguments take_wh corrected sums.now volumes.old }
+    ensures { volumes.new ≡ volumes_of take_wh sums.now }
 {
-    let mut fractions = [0u64; 32];
-    share_down(u, w, nets, weighted, volumes, &mut fractions);
-    let lack = take_wh - total(volumes);
-    hand_out(volumes, &fractions, lack as u64);
-}
-
-// A refusal's number, with U and W at 0.
-fn refused(number: u64) -> Corrected
-    ensures { result ≡ uncorrected number }
-{
-    Corrected {
-        number,
-        unallocated: 0,
-        weighted: 0,
-    }
+    let fractions = share_down(corrected, sums, volumes);
+    let shared: i64 = volumes.iter().sum();
+    let lack = (take_wh - shared).unsigned_abs();
+    hand_out(volumes, &fractions, lack);
 }
 
 // Corrects the sums of the 32 units to the Take: writes their volumes to the first 32 words of the slice.
 pub fn correct_units(
     take_wh: i64,
     tolerance: u32,
-    nets: &[i64; 32],
-    weighted: &[i64; 32],
+    sums: &[UnitSums; 32],
     volumes: &mut [i64],
-) -> Corrected
-    requires { CorrectArguments take_wh tolerance nets.now weighted.now volumes.old }
-    ensures { CorrectionGives take_wh tolerance (pairs_of nets.now weighted.now) volumes.old result volumes.new }
+) -> Result<Corrected, Refusal>
+    requires { CorrectArguments take_wh tolerance sums.now volumes.old }
+    ensures { CorrectionGives take_wh tolerance sums.now volumes.old result volumes.new }
 {
-    let u = take_wh - total(nets);
-    let w = total(weighted);
-    if w < 1 {
-        return refused(WEIGHTED_BELOW_ONE);
+    let corrected = Corrected::of(take_wh, sums);
+    if corrected.weighted < 1 {
+        return Err(Refusal::WeightedBelowOne);
     }
-    if exceeds_tolerance(tolerance, u, w) {
-        return refused(TOLERANCE_EXCEEDED);
+    if corrected.exceeds(tolerance) {
+        return Err(Refusal::ToleranceExceeded);
     }
-    apportion(take_wh, u, w, nets, weighted, &mut volumes[0..32]);
-    Corrected {
-        number: ACCEPTED,
-        unallocated: u,
-        weighted: w,
-    }
+    apportion(take_wh, corrected, sums, &mut volumes[0..32]);
+    Ok(corrected)
 }

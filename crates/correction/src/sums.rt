@@ -1,10 +1,9 @@
-// From cells to the units' sums: losses rounded, n and a of a unit, and totals over units.
-ghost use Rattle.std.specs.Prelude.{◌≡◌, ◌<◌, ◌^◌, [], pos, nat_abs, get_or};
-ghost use Rattle.integers.specs.Sum.{sum};
+// From cells to the units' sums: losses rounded, n and a of a unit.
+ghost use Rattle.std.specs.Prelude.{◌≡◌, ◌<◌, ◌^◌, nat_abs};
 ghost use Rattle.correction.specs.Correction.{by_direction};
-ghost use Rattle.correction.specs.Helpers.{unit_figures_of, UnitArguments, AllUnitsArguments, AllUnits, TotalArguments};
+ghost use Rattle.correction.specs.Helpers.{unit_figures_of, UnitArguments, AllUnitsArguments, UnitsWorked};
 
-use crate::{UnitFigures, UnitSums};
+use crate::{AllUnits, UnitFigures, UnitSums};
 use integers::nearest_wh;
 
 // A cell as it counts in n: import as it is, export negated.
@@ -15,34 +14,26 @@ fn by_direction(class: usize, c: i64) -> i64
     if class / 4 % 2 == 0 { c } else { -c }
 }
 
-// A weight as a signed number, to multiply a cell by it.
-fn signed(x: u32) -> i64
-    ensures { result ≡ pos x }
-{
-    x as i64
-}
-
 // n and a of a unit and its droppings, from its cells before rounding and the weights. The classes go in pairs of one direction:
 // consumption, and its losses.
-fn unit_sums(cells: &[[i64; 24]; 32], unit: usize, weights: &[u32; 24]) -> UnitFigures
-    requires fact_1 { unit < 32 }
-    requires fact_2 { UnitArguments (get_or cells.now unit []) weights.now }
-    ensures { result ≡ unit_figures_of (get_or cells.now unit []) weights.now }
+fn unit_sums(cells: &[i64; 24], weights: &[u32; 24]) -> UnitFigures
+    requires { UnitArguments cells.now weights.now }
+    ensures { result ≡ unit_figures_of cells.now weights.now }
 {
     let mut net = 0;
     let mut weighted = 0;
     let mut droppings = 0;
-    let mut class = 0;
-    while class < 24 {
-        let used = cells[unit][class];
-        let rounded = nearest_wh(cells[unit][class + 1]);
+    // Kept: the number of a pair gives its direction, so a zip would be counted too, under a pattern three deep in place of one number.
+    for pair in 0..12 {
+        let class = 2 * pair;
+        let used = cells[class];
+        let rounded = nearest_wh(cells[class + 1]);
         let lost = rounded.wh;
         let dropped = rounded.dropped;
         net += by_direction(class, used + lost);
         droppings += by_direction(class, dropped);
-        weighted += used * signed(weights[class]);
-        weighted += lost * signed(weights[class + 1]);
-        class += 2;
+        weighted += used * i64::from(weights[class]);
+        weighted += lost * i64::from(weights[class + 1]);
     }
     UnitFigures {
         sums: UnitSums { net, weighted },
@@ -51,39 +42,22 @@ fn unit_sums(cells: &[[i64; 24]; 32], unit: usize, weights: &[u32; 24]) -> UnitF
 }
 
 // n and a of each of the 32 units, and its droppings.
-pub fn all_units(
-    cells: &[[i64; 24]; 32],
-    weights: &[u32; 24],
-    nets: &mut [i64; 32],
-    weighted: &mut [i64; 32],
-    droppings: &mut [i64; 32],
-)
-    requires { AllUnitsArguments cells.now weights.now nets.old weighted.old droppings.old }
-    ensures { AllUnits cells.now weights.now nets.new weighted.new droppings.new }
+pub fn all_units(cells: &[[i64; 24]; 32], weights: &[u32; 24]) -> AllUnits
+    requires { AllUnitsArguments cells.now weights.now }
+    ensures { UnitsWorked weights.now cells.now result }
 {
-    let mut unit = 0;
-    while unit < 32 {
-        let figures = unit_sums(cells, unit, weights);
-        let net = figures.sums.net;
-        let sum = figures.sums.weighted;
-        let dropped = figures.droppings;
-        nets[unit] = net;
-        weighted[unit] = sum;
-        droppings[unit] = dropped;
-        unit += 1;
+    let mut units = AllUnits {
+        sums: [UnitSums {
+            net: 0,
+            weighted: 0,
+        }; 32],
+        droppings: [0; 32],
+    };
+    // Kept: under a zip of `iter_mut` the proof stays open: it then knows the lengths of the two arrays, and no entry of them.
+    for (unit, row) in cells.iter().enumerate() {
+        let figures = unit_sums(row, weights);
+        units.sums[unit] = figures.sums;
+        units.droppings[unit] = figures.droppings;
     }
-}
-
-// The total over the units.
-pub fn total(xs: &[i64]) -> i64
-    requires { TotalArguments xs.now }
-    ensures { result ≡ sum xs.now }
-{
-    let mut all = 0;
-    let mut i = 0;
-    while i < xs.len() {
-        all += xs[i];
-        i += 1;
-    }
-    all
+    units
 }

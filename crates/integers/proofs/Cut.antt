@@ -4,12 +4,12 @@ use Prim.Native.Nat.{ℕ, suc, ◌*◌, ◌/◌, ◌%◌, ◌<◌}
 use mathlib.Core.Path.{◌≡◌, refl, sym, ap}
 use native.Mathlib.Omega.{arith}
 use native.Mathlib.Nat.{mod-lt, div-add-mod', div-le_self}
-use lib.IntN.{ℤ, pos, negsuc, nat_abs, neg_ℤ, ◌+ℤ◌, ◌-ℤ◌, ◌*ℤ◌}
+use lib.IntN.{ℤ, pos, negsuc, nat_abs, ◌+ℤ◌, ◌-ℤ◌, ◌*ℤ◌}
 use lib.Signed.{◌≤ℤ◌, ◌<ℤ◌, quot_z, rem_z, mag_rem, pos-nat_abs, yes_non_neg}
 use mir.Syntax.{w64}
 use mir.Val.{SFits}
 use Rattle.integers.specs.Quotient.{quotient_of}
-use Rattle.integers.proofs.Linear.{linear, plus, minus, opposite, size, one_side}
+use Rattle.integers.proofs.Linear.{linear, size, one_side}
 use Rattle.integers.proofs.Ring.{neg-times, minus-times}
 use Rattle.integers.proofs.Size.{size-neg}
 use Rattle.integers.proofs.Floor.{floor-fits, floor-unique, fraction-unique}
@@ -19,7 +19,7 @@ cut-whole (pos n) d = ap pos (sym (div-add-mod' n d))
 cut-whole (negsuc n) d =
     let q = pos (suc n / d * d) in
     let r = pos (suc n % d) in
-    rw (neg-times (pos (suc n / d)) (pos d)) (omega (linear, div-add-mod' (suc n) d, opposite q, opposite r, plus (neg_ℤ q) (neg_ℤ r)))
+    rw (neg-times (pos (suc n / d)) (pos d)) (omega (linear, div-add-mod' (suc n) d))
 
 pub cut_left : (x : ℤ) (d : ℕ) → 0 < d → nat_abs (rem_z x (pos d)) < d
 cut_left (pos n) d p = mod-lt n p
@@ -33,7 +33,7 @@ cut-size (negsuc n) d = size-neg (pos (suc n / d))
 -- both are in the range of an i64 if x is
 pub cut_fits : (x : ℤ) (d : ℕ) → SFits w64 x → SFits w64 (quot_z x (pos d))
 cut_fits (pos n) d f = omega (linear, div-le_self n d)
-cut_fits (negsuc n) d f = omega (linear, opposite (pos (suc n / d)), div-le_self (suc n) d)
+cut_fits (negsuc n) d f = omega (linear, div-le_self (suc n) d)
 
 pub left-fits : (x d : ℤ) → SFits w64 x → SFits w64 (rem_z x d)
 left-fits x d f = record { sfits = omega (arith, mag_rem x d) }
@@ -53,19 +53,19 @@ module _ (x : ℤ) (d : ℕ) (p : 0 < d) where
   -- a remainder below 0
   module _ (h : rem_z x (pos d) <ℤ pos 0) where
     pub raised-low : pos 0 ≤ℤ (rem_z x (pos d) +ℤ pos d)
-    raised-low = let r = rem_z x (pos d) in omega (linear, size r, cut_left x d p, plus r (pos d))
+    raised-low = let r = rem_z x (pos d) in omega (linear, size r, cut_left x d p)
 
     pub raised-fits : SFits w64 (pos d) → SFits w64 (rem_z x (pos d) +ℤ pos d)
-    raised-fits f = let r = rem_z x (pos d) in omega (linear, raised-low, plus r (pos d), one_side (r +ℤ pos d))
+    raised-fits f = let r = rem_z x (pos d) in omega (linear, raised-low, one_side (r +ℤ pos d))
 
     pub cut_below : record { floor = quot_z x (pos d) -ℤ pos 1; fraction = nat_abs (rem_z x (pos d) +ℤ pos d) } ≡ quotient_of x d
     cut_below =
         let q = quot_z x (pos d) in
         let r = rem_z x (pos d) in
         let one = pos (1 * d) in
-        made_of (q -ℤ pos 1) (r +ℤ pos d) raised-low (omega (linear, plus r (pos d)))
+        made_of (q -ℤ pos 1) (r +ℤ pos d) raised-low (omega linear)
         (rw (minus-times q (pos 1) (pos d))
-        (omega (linear, cut-whole x d, plus (q *ℤ pos d) r, plus r (pos d), minus (q *ℤ pos d) one, plus (q *ℤ pos d -ℤ one) (r +ℤ pos d))))
+        (omega (linear, cut-whole x d)))
 
     pub one_less_fits : SFits w64 x → SFits w64 (quot_z x (pos d) -ℤ pos 1)
     one_less_fits f = rw (ap (λ q. q.floor) cut_below) (floor-fits x d f)

@@ -1,5 +1,5 @@
 -- Quotients by a number above 0, rounded down, and their fractions.
-use Prim.Native.Nat.{ℕ, ◌-◌, ◌*◌, ◌/◌, ◌%◌, ◌≤◌, ◌<◌}
+use Prim.Native.Nat.{ℕ, ◌-◌, ◌*◌, ◌/◌, ◌≤◌, ◌<◌}
 use mathlib.Core.Path.{◌≡◌, sym, ap, ◌∙◌}
 use native.Mathlib.Omega.{arith}
 use native.Mathlib.Nat.{mod-lt, div-add-mod', div-le_self, div-le_of_le-mul, div-lt_iff_lt-mul, mul-le-mul_right}
@@ -9,7 +9,7 @@ use lib.Signed.{◌≤ℤ◌, ◌<ℤ◌, le_z_yes}
 use mir.Syntax.{w64}
 use mir.Val.{SFits}
 use Rattle.integers.specs.Quotient.{floor_of, fraction_of}
-use Rattle.integers.proofs.Linear.{linear, plus, minus, times}
+use Rattle.integers.proofs.Linear.{linear}
 use Rattle.integers.proofs.Ring.{plus_times}
 use Rattle.integers.proofs.Order.{antisymmetric, le-of-lt-next, times-cancel-lt}
 use Rattle.integers.proofs.Size.{size-times}
@@ -46,13 +46,13 @@ unfolding floor_of fraction_of
 whole (pos n) d p = ap pos (sym (div-add-mod' n d))
 whole (negsuc n) d p =
     let q = negsuc (n / d) in
-    omega (linear, plus (q *ℤ pos d) (pos (d - 1 - n % d)), times q (pos d), div-add-mod' n d, mod-lt n p)
+    omega (linear, div-add-mod' n d, mod-lt n p)
 
 -- and no other number and fraction below d make x
 at_most : (f q : ℤ) (d g r : ℕ) → r < d → f *ℤ pos d +ℤ pos g ≡ q *ℤ pos d +ℤ pos r → f ≤ℤ q
 at_most f q d g r h e =
     let k : (f *ℤ pos d) <ℤ ((q +ℤ pos 1) *ℤ pos d) =
-    omega (linear, plus (f *ℤ pos d) (pos g), plus (q *ℤ pos d) (pos r), plus_times q (pos 1) (pos d), plus (q *ℤ pos d) (pos (1 * d))) in
+    omega (linear, plus_times q (pos 1) (pos d)) in
     le-of-lt-next (times-cancel-lt f (q +ℤ pos 1) (pos d) (le_z_yes (le→leb 0 d (omega arith))) k)
 
 module _ (x q : ℤ) (d r : ℕ) (h : r < d) (e : x ≡ q *ℤ pos d +ℤ pos r) where
@@ -67,14 +67,14 @@ module _ (x q : ℤ) (d r : ℕ) (h : r < d) (e : x ≡ q *ℤ pos d +ℤ pos r)
   fraction-unique =
       let p : 0 < d = omega arith in
       let w : q *ℤ pos d +ℤ pos (fraction_of x d) ≡ q *ℤ pos d +ℤ pos r = rw floor-unique at (sym (whole x d p)) ∙ e in
-      omega (linear, plus (q *ℤ pos d) (pos (fraction_of x d)), plus (q *ℤ pos d) (pos r))
+      omega linear
 
 module _ (n x : ℤ) (d : ℕ) (p : 0 < d) where
   shifted : n *ℤ pos d +ℤ x ≡ (n +ℤ floor_of x d) *ℤ pos d +ℤ pos (fraction_of x d)
   shifted =
       let f = floor_of x d in
       let g = pos (fraction_of x d) in
-      omega (linear, whole x d p, plus_times n f (pos d), plus (n *ℤ pos d) x, plus (n *ℤ pos d) (f *ℤ pos d), plus (f *ℤ pos d) g, plus ((n +ℤ f) *ℤ pos d) g)
+      omega (linear, whole x d p, plus_times n f (pos d))
 
   pub floor-shift : floor_of (n *ℤ pos d +ℤ x) d ≡ n +ℤ floor_of x d
   floor-shift = floor-unique (n *ℤ pos d +ℤ x) (n +ℤ floor_of x d) d (fraction_of x d) (fraction-below x d p) shifted
@@ -87,10 +87,10 @@ module _ (x : ℤ) (d : ℕ) (p : 0 < d) where
   pub above_floor : x -ℤ floor_of x d *ℤ pos d ≡ pos (fraction_of x d)
   above_floor =
       let f = floor_of x d *ℤ pos d in
-      omega (linear, whole x d p, plus f (pos (fraction_of x d)), minus x f)
+      omega (linear, whole x d p)
 
   pub below_next : (floor_of x d +ℤ pos 1) *ℤ pos d -ℤ x ≡ pos (d - fraction_of x d)
   below_next =
       let f = floor_of x d *ℤ pos d in
       let n = (floor_of x d +ℤ pos 1) *ℤ pos d in
-      omega (linear, whole x d p, fraction-below x d p, plus_times (floor_of x d) (pos 1) (pos d), plus f (pos (1 * d)), plus f (pos (fraction_of x d)), minus n x)
+      omega (linear, whole x d p, fraction-below x d p, plus_times (floor_of x d) (pos 1) (pos d))

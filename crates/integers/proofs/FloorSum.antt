@@ -9,7 +9,7 @@ use lib.IntN.{ℤ, pos, ◌+ℤ◌, ◌-ℤ◌, ◌*ℤ◌}
 use lib.Signed.{◌≤ℤ◌, ◌<ℤ◌, ≤ℤ_refl}
 use Rattle.integers.specs.Sum.{sum}
 use Rattle.integers.specs.Quotient.{floor_of, fraction_of}
-use Rattle.integers.proofs.Linear.{linear, plus, minus}
+use Rattle.integers.proofs.Linear.{linear}
 use Rattle.integers.proofs.Ring.{plus_times, minus-times}
 use Rattle.integers.proofs.Order.{times-cancel-lt, times-cancel-le}
 use Rattle.integers.proofs.Floor.{whole, fraction-below}
@@ -27,33 +27,22 @@ module _ {A : Type 0} (f : A → ℤ) (d : ℕ) (p : 0 < d) where
   sum-whole (x ∷ xs) =
       let q = floor_of (f x) d in
       let r = pos (fraction_of (f x) d) in
-      omega (
-        linear,
-        sum-whole xs,
-        whole (f x) d p,
-        plus (f x) (sum (map f xs)),
-        plus_times q (floors xs) (pos d),
-        plus (q *ℤ pos d) r,
-        plus (floors xs *ℤ pos d) (fractions xs),
-        plus (q *ℤ pos d) (floors xs *ℤ pos d),
-        plus r (fractions xs),
-        plus ((q +ℤ floors xs) *ℤ pos d) (r +ℤ fractions xs),
-      )
+      omega (linear, sum-whole xs, whole (f x) d p, plus_times q (floors xs) (pos d))
 
   pub fractions-low : (xs : List A) → pos 0 ≤ℤ sum (map (λ x. pos (fraction_of (f x) d)) xs)
   unfolding sum
   fractions-low [] = ≤ℤ_refl (pos 0)
-  fractions-low (x ∷ xs) = omega (linear, fractions-low xs, plus (pos (fraction_of (f x) d)) (fractions xs))
+  fractions-low (x ∷ xs) = omega (linear, fractions-low xs)
 
   pub fractions-high : (xs : List A) → sum (map (λ x. pos (fraction_of (f x) d)) xs) ≤ℤ pos (length xs * (d - 1))
   unfolding sum
   fractions-high [] = omega linear
-  fractions-high (x ∷ xs) = omega (linear, fractions-high xs, fraction-below (f x) d p, plus (pos (fraction_of (f x) d)) (fractions xs))
+  fractions-high (x ∷ xs) = omega (linear, fractions-high xs, fraction-below (f x) d p)
 
   module _ (xs : List A) (t : ℤ) (e : sum (map f xs) ≡ t *ℤ pos d) where
     pub lacking-times : (t -ℤ sum (map (λ x. floor_of (f x) d) xs)) *ℤ pos d ≡ sum (map (λ x. pos (fraction_of (f x) d)) xs)
     lacking-times =
-        omega (linear, sum-whole xs, minus-times t (floors xs) (pos d), plus (floors xs *ℤ pos d) (fractions xs), minus (t *ℤ pos d) (floors xs *ℤ pos d))
+        omega (linear, sum-whole xs, minus-times t (floors xs) (pos d))
 
     pub lacking-low : pos 0 ≤ℤ (t -ℤ sum (map (λ x. floor_of (f x) d) xs))
     lacking-low = times-cancel-le (pos 0) (t -ℤ floors xs) (pos d) (omega linear) (omega (linear, fractions-low xs, lacking-times))

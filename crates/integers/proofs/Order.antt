@@ -7,7 +7,8 @@ use native.Mathlib.Nat.{lt_of_mul-lt-mul_right, le_of_mul-le-mul_right}
 use lib.Dec.{T}
 use lib.IntN.{ℤ, pos, negsuc, ◌+ℤ◌, ◌*ℤ◌}
 use lib.Signed.{le_z, lt_z, ◌≤ℤ◌, ◌<ℤ◌, le_z_yes, lt_z_yes, lt_z_no}
-use Rattle.integers.proofs.Linear.{linear, above, below, plus, times, parts-le, parts-lt}
+use borrow.Author.Differences.{up, down, below_in, at_most_in}
+use Rattle.integers.proofs.Linear.{linear}
 
 -- a test that held or failed
 pub lt-true : (a b : ℤ) → lt_z a b ≡ true → a <ℤ b
@@ -27,21 +28,21 @@ module _ {a b : ℤ} where
   antisymmetric h k = omega linear
 
   pub lt-of-next : (a +ℤ pos 1) ≤ℤ b → a <ℤ b
-  lt-of-next h = omega (linear, plus a (pos 1))
+  lt-of-next h = omega linear
 
   pub le-of-lt-next : a <ℤ (b +ℤ pos 1) → a ≤ℤ b
-  le-of-lt-next h = omega (linear, plus b (pos 1))
+  le-of-lt-next h = omega linear
 
 -- a factor that is not negative may be left off
 pub times-cancel-lt : (a b d : ℤ) → pos 0 ≤ℤ d → (a *ℤ d) <ℤ (b *ℤ d) → a <ℤ b
 times-cancel-lt a b (pos n) p h =
-    let k : (above a + below b) * n < (above b + below a) * n = omega (linear, times a (pos n), times b (pos n)) in
-    parts-lt a b (lt_of_mul-lt-mul_right n k)
+    let k : (up a + down b) * n < (up b + down a) * n = omega linear in
+    below_in a b (lt_of_mul-lt-mul_right n k)
 times-cancel-lt a b (negsuc n) p h = absurd p.le
 
 pub times-cancel-le : (a b d : ℤ) → pos 0 <ℤ d → (a *ℤ d) ≤ℤ (b *ℤ d) → a ≤ℤ b
 times-cancel-le a b (pos n) p h =
     let q : 0 < n = omega linear in
-    let k : (above a + below b) * n ≤ (above b + below a) * n = omega (linear, times a (pos n), times b (pos n)) in
-    parts-le a b (le_of_mul-le-mul_right k q)
+    let k : (up a + down b) * n ≤ (up b + down a) * n = omega linear in
+    at_most_in a b (le_of_mul-le-mul_right k q)
 times-cancel-le a b (negsuc n) p h = absurd p.lt

@@ -5,16 +5,16 @@ use native.Mathlib.Omega.{arith}
 use native.Mathlib.Nat.{mul-le-mul}
 use lib.IntN.{ℤ, pos, negsuc, nat_abs, neg_ℤ, ◌+ℤ◌, ◌-ℤ◌, ◌*ℤ◌}
 use lib.Signed.{◌≤ℤ◌, ◌<ℤ◌}
-use Rattle.integers.proofs.Linear.{linear, opposite, plus, size, one_side}
+use Rattle.integers.proofs.Linear.{linear, size, one_side}
 
 pub size-neg : (z : ℤ) → nat_abs (neg_ℤ z) ≡ nat_abs z
-size-neg z = omega (arith, size z, size (neg_ℤ z), opposite z)
+size-neg z = omega (linear, size z, size (neg_ℤ z))
 
 pub size-positive : (z : ℤ) → pos 0 <ℤ z → 0 < nat_abs z
 size-positive z p = omega (linear, size z)
 
 pub size-plus : (a b : ℤ) → nat_abs (a +ℤ b) ≤ nat_abs a + nat_abs b
-size-plus a b = omega (arith, size a, size b, size (a +ℤ b), plus a b, one_side (a +ℤ b))
+size-plus a b = omega (linear, size a, size b, size (a +ℤ b), one_side (a +ℤ b))
 
 pub size-minus : (a b : ℤ) → nat_abs (a -ℤ b) ≤ nat_abs a + nat_abs b
 size-minus a b = omega (arith, size-plus a (neg_ℤ b), size-neg b)
@@ -39,4 +39,4 @@ module _ (a b : ℤ) {A B : ℕ} (h : nat_abs a ≤ A) (k : nat_abs b ≤ B) whe
 -- within B, from two orders
 module _ {x : ℤ} {B : ℕ} where
   pub within : neg_ℤ (pos B) ≤ℤ x → x ≤ℤ pos B → nat_abs x ≤ B
-  within h k = omega (linear, size x, one_side x, opposite (pos B))
+  within h k = omega (linear, size x, one_side x)

@@ -14,11 +14,13 @@ pub struct Quotient {
 }
 
 // x / d rounded toward minus infinity, and the fraction above it. The processor's quotient is toward zero: where its remainder is
-// below 0, the floor is one less and the fraction d more. The compiler makes both without a branch.
+// below 0, the floor is one less and the fraction d more.
+// Kept: with `div_euclid` and `rem_euclid`, which divide twice and branch on the sign of x, a quotient took 1.4 to 1.8 times as long.
 fn floor_quotient(x: i64, d: i64) -> Quotient
     requires { pos 0 <ℤ d }
     ensures { result ≡ quotient_of x (nat_abs d) }
 {
+    // Kept: `as`, which is proved to lose nothing, where `cast_unsigned` would take a number below 0 too.
     let quotient = x / d;
     let remainder = x % d;
     if remainder < 0 {
@@ -61,18 +63,12 @@ pub fn nearest_wh(thousandths: i64) -> Rounded
     }
 }
 
-// The size of x. That of the least i64 is no i64, so 1 is added after the cast.
-pub fn magnitude(x: i64) -> u64
-    ensures { result ≡ nat_abs x }
-{
-    if x < 0 { (-1 - x) as u64 + 1 } else { x as u64 }
-}
-
 // One more digit of the first factor, in base 2,048, after `done`, the quotient of what the digits before it give.
 fn next_digit(done: Quotient, digit: u64, a: i64, w: i64) -> Quotient
     requires { DigitArguments done digit a w }
     ensures { result ≡ quotient_of ((done.floor *ℤ w +ℤ pos done.fraction) *ℤ pos 2048 +ℤ pos digit *ℤ a) (nat_abs w) }
 {
+    // Kept: `as`, which is proved to lose nothing, where `cast_signed` would take a number of 2^63 and above too.
     let left = done.fraction as i64 * 2048 + digit as i64 * a;
     let step = floor_quotient(left, w);
     Quotient {
@@ -96,6 +92,7 @@ fn digits(m: u64) -> u64
 }
 
 // m × a / w. The product can pass 10^27, so it is never formed: the digits of m in base 2,048 are taken one at a time, the highest first.
+// Kept: i128 proves, with `div_euclid` and `rem_euclid` or `/` and `%`, but for a U of two digits and W past 2^32 it took 1.08 to 1.38 of this time.
 fn product_quotient(m: u64, a: i64, w: i64) -> Quotient
     requires { ShareArguments (pos m) a w }
     ensures { result ≡ quotient_of (pos m *ℤ a) (nat_abs w) }
@@ -104,9 +101,7 @@ fn product_quotient(m: u64, a: i64, w: i64) -> Quotient
         floor: 0,
         fraction: 0,
     };
-    let mut i = digits(m);
-    while 0 < i {
-        i -= 1;
+    for i in (0..digits(m)).rev() {
         done = next_digit(done, (m >> (11 * i)) % 2048, a, w);
     }
     done
@@ -118,5 +113,5 @@ pub fn share_quotient(u: i64, a: i64, w: i64) -> Quotient
     ensures { result ≡ quotient_of (u *ℤ a) (nat_abs w) }
 {
     let signed = if u < 0 { -a } else { a };
-    product_quotient(magnitude(u), signed, w)
+    product_quotient(u.unsigned_abs(), signed, w)
 }

@@ -1,71 +1,115 @@
 -- The call that stands first in a slice, by its kind.
-use Prim.Native.Nat.{ℕ}
-use mathlib.Core.Path.{◌≡◌, refl}
-use mathlib.Core.Bool.{Bool, true, false, ◌||◌, true≢false}
+use Prim.Native.Nat.{ℕ, ◌<◌}
+use mathlib.Core.Path.{◌≡◌, ◌∙◌}
 use mathlib.Core.List.{List}
-use borrow.Author.Tests.{ne_eqb}
+use native.Mathlib.Omega.{arith}
+use borrow.Author.Tests.{eqb-true}
 use lib.Dec.{eqb}
-use lib.ListN.{get_or}
+use lib.ListN.{get_or, take}
+use Rattle.std.specs.Prelude.{Some, None}
+use Rattle.std.proofs.lemmas.List.{get_or-take}
 use Rattle.words.proofs.Tests.{by-test}
-use Rattle.book.specs.declared.Settings.{Settings}
 use Rattle.book.specs.declared.Setting.TheVariants.{Shape, Weight, Tolerance, GroupTake}
-use Rattle.book.specs.declared.Stored.{Stored}
-use Rattle.book.specs.Rows.{capacity}
-use Rattle.book.specs.Book.{lent, well_formed}
-use Rattle.book.specs.Helpers.{registration_storing, reading_storing, Stores}
-use Rattle.calls.specs.declared.Call.TheVariants.{Set}
-use Rattle.calls.specs.Calls.{call_outcome, Gives}
-use Rattle.calls.specs.Helpers.{answer_counted}
-use Rattle.calls.proofs.Answers.{gives-registered, gives-recorded}
-use Rattle.listing.specs.Listed.{register_kind, reading_kind, shape_kind, weight_kind, tolerance_kind, take_kind, signed_of, mpan_in, registration_in, reading_in, setting_in, call_of}
-use Rattle.listing.specs.Helpers.{writes_rows, row_storing}
+use Rattle.calls.specs.declared.Call.TheVariants.{Register, Record, Set}
+use Rattle.listing.specs.declared.list.Kind.{Kind}
+use Rattle.listing.specs.declared.list.Kind.TheVariants as kind
+use Rattle.listing.specs.Listed.{call_words, register_kind, reading_kind, shape_kind, weight_kind, tolerance_kind, take_kind, signed_of, mpan_in, registration_in, reading_in, setting_in, call_of}
+use Rattle.listing.specs.Kind.{kind_of}
 
-neither : (a b : Bool) → (a || b) ≡ false → (a ≡ false) × (b ≡ false)
-neither true b h = absurd (true≢false h)
-neither false b h = (refl, h)
+abbrev number_of_kind : Kind → ℕ
+number_of_kind kind.Register = register_kind
+number_of_kind kind.Reading = reading_kind
+number_of_kind kind.Shape = shape_kind
+number_of_kind kind.Weight = weight_kind
+number_of_kind kind.Tolerance = tolerance_kind
+number_of_kind kind.Take = take_kind
+
+same-kind : {k l : Kind} → Some k ≡ Some l → number_of_kind k ≡ number_of_kind l
+same-kind e = cc
+
+no-kind : {X : Type 0} {k : Kind} → None ≡ Some k → X
+no-kind e = absurd (cc)
+
+-- a word of a kind is its number
+number-of : (word : ℕ) (k : Kind) → kind_of word ≡ Some k → word ≡ number_of_kind k
+unfolding kind_of
+number-of word k e =
+    by-test (eqb word register_kind)
+    (λ h. eqb-true word register_kind h ∙ same-kind (rw h at e))
+    (λ a.
+    by-test (eqb word reading_kind)
+    (λ h. eqb-true word reading_kind h ∙ same-kind (rw (a, h) at e))
+    (λ b.
+    by-test (eqb word shape_kind)
+    (λ h. eqb-true word shape_kind h ∙ same-kind (rw (a, b, h) at e))
+    (λ d.
+    by-test (eqb word weight_kind)
+    (λ h. eqb-true word weight_kind h ∙ same-kind (rw (a, b, d, h) at e))
+    (λ f.
+    by-test (eqb word tolerance_kind)
+    (λ h. eqb-true word tolerance_kind h ∙ same-kind (rw (a, b, d, f, h) at e))
+    (λ g.
+    by-test (eqb word take_kind)
+    (λ h. eqb-true word take_kind h ∙ same-kind (rw (a, b, d, f, g, h) at e))
+    (λ h. no-kind (rw (a, b, d, f, g, h) at e)))))))
 
 module _ (ws : List ℕ) where
-  pub setting-shape : get_or ws 0 0 ≡ shape_kind → setting_in ws ≡ Shape (get_or ws 1 0) (get_or ws 2 0)
-  unfolding setting_in
-  setting-shape h = rw h
+  abbrev word : ℕ
+  word = get_or ws 0 0
 
-  pub setting-weight : get_or ws 0 0 ≡ weight_kind → setting_in ws ≡ Weight (get_or ws 1 0) (get_or ws 2 0)
-  unfolding setting_in
-  setting-weight h = rw h
-
-  pub setting-tolerance : get_or ws 0 0 ≡ tolerance_kind → setting_in ws ≡ Tolerance (get_or ws 1 0)
-  unfolding setting_in
-  setting-tolerance h = rw h
-
-  pub setting-take : get_or ws 0 0 ≡ take_kind → setting_in ws ≡ GroupTake (signed_of (get_or ws 1 0))
-  unfolding setting_in
-  setting-take h = rw h
-
-  pub setting-unknown : (get_or ws 0 0 ≡ shape_kind → ⊥) → (get_or ws 0 0 ≡ weight_kind → ⊥) → (get_or ws 0 0 ≡ tolerance_kind → ⊥) → (get_or ws 0 0 ≡ take_kind → ⊥) → setting_in ws ≡ Tolerance 1001
-  unfolding setting_in
-  setting-unknown p q r s =
-      rw (ne_eqb (get_or ws 0 0) shape_kind p, ne_eqb (get_or ws 0 0) weight_kind q, ne_eqb (get_or ws 0 0) tolerance_kind r, ne_eqb (get_or ws 0 0) take_kind s)
-
-  -- a call that writes no rows replaces a setting
-  pub call-sets : writes_rows ws ≡ false → call_of ws ≡ Set (setting_in ws)
+  pub call-register : kind_of word ≡ Some kind.Register → Register (mpan_in ws) (registration_in ws) ≡ call_of ws
   unfolding call_of
-  call-sets h =
-      let k = neither (eqb (get_or ws 0 0) register_kind) (eqb (get_or ws 0 0) reading_kind) h in
-      rw (k.0, k.1)
+  call-register e = rw (number-of word kind.Register e)
 
-  -- what storing in the rows, by the kind, is of the call
-  pub rows-register : (cap : ℕ) → get_or ws 0 0 ≡ register_kind → row_storing cap ws ≡ registration_storing cap (mpan_in ws) (registration_in ws)
-  unfolding row_storing
-  rows-register cap h = rw h
+  pub call-reading : kind_of word ≡ Some kind.Reading → Record (mpan_in ws) (reading_in ws) ≡ call_of ws
+  unfolding call_of
+  call-reading e = rw (number-of word kind.Reading e)
 
-  pub rows-reading : (cap : ℕ) → (get_or ws 0 0 ≡ register_kind → ⊥) → row_storing cap ws ≡ reading_storing (mpan_in ws) (reading_in ws)
-  unfolding row_storing
-  rows-reading cap h = rw (ne_eqb (get_or ws 0 0) register_kind h)
+  pub call-shape : kind_of word ≡ Some kind.Shape → Set (Shape (get_or ws 1 0) (get_or ws 2 0)) ≡ call_of ws
+  unfolding call_of setting_in
+  call-shape e = rw (number-of word kind.Shape e)
 
-  pub gives-row-call : (s : Settings) (words : List ℕ) → well_formed (lent s words) ≡ true → writes_rows ws ≡ true → {stored : Stored} {words_after : List ℕ}
-      → Stores (mpan_in ws) (row_storing (capacity words) ws) s.meters words stored words_after → Gives (call_outcome (lent s words) (call_of ws)) (answer_counted s stored) words_after
-  unfolding call_of row_storing
-  gives-row-call s words wf writes x =
-      by-test (eqb (get_or ws 0 0) register_kind)
-      (λ h. rw h (gives-registered s words wf (mpan_in ws) (registration_in ws) (rw h at x)))
-      (λ h. rw (h, (rw h at writes)) (gives-recorded s words wf (mpan_in ws) (reading_in ws) (rw h at x)))
+  pub call-weight : kind_of word ≡ Some kind.Weight → Set (Weight (get_or ws 1 0) (get_or ws 2 0)) ≡ call_of ws
+  unfolding call_of setting_in
+  call-weight e = rw (number-of word kind.Weight e)
+
+  pub call-tolerance : kind_of word ≡ Some kind.Tolerance → Set (Tolerance (get_or ws 1 0)) ≡ call_of ws
+  unfolding call_of setting_in
+  call-tolerance e = rw (number-of word kind.Tolerance e)
+
+  pub call-take : kind_of word ≡ Some kind.Take → Set (GroupTake (signed_of (get_or ws 1 0))) ≡ call_of ws
+  unfolding call_of setting_in
+  call-take e = rw (number-of word kind.Take e)
+
+  -- an unknown kind
+  pub call-unknown : kind_of word ≡ None → Set (Tolerance 1001) ≡ call_of ws
+  unfolding kind_of call_of setting_in
+  call-unknown e =
+      by-test (eqb word register_kind)
+      (λ h. absurd (let n = rw h at e in cc))
+      (λ a.
+      by-test (eqb word reading_kind)
+      (λ h. absurd (let n = rw (a, h) at e in cc))
+      (λ b.
+      by-test (eqb word shape_kind)
+      (λ h. absurd (let n = rw (a, b, h) at e in cc))
+      (λ d.
+      by-test (eqb word weight_kind)
+      (λ h. absurd (let n = rw (a, b, d, h) at e in cc))
+      (λ f.
+      by-test (eqb word tolerance_kind)
+      (λ h. absurd (let n = rw (a, b, d, f, h) at e in cc))
+      (λ g.
+      by-test (eqb word take_kind)
+      (λ h. absurd (let n = rw (a, b, d, f, g, h) at e in cc))
+      (λ h. rw (a, b, d, f, g, h)))))))
+
+  -- only the first words of a slice matter
+  word-of-first : (k : ℕ) → k < call_words → get_or (take call_words ws) k 0 ≡ get_or ws k 0
+  word-of-first k h = get_or-take call_words ws k 0 h
+
+  pub call-of-first : call_of (take call_words ws) ≡ call_of ws
+  unfolding call_of setting_in
+  call-of-first =
+      let n : (k : ℕ) → k < 12 → get_or (take 12 ws) k 0 ≡ get_or ws k 0 = word-of-first in
+      rw (n 0 (omega arith), n 1 (omega arith), n 2 (omega arith), n 3 (omega arith), n 4 (omega arith), n 5 (omega arith), n 6 (omega arith), n 7 (omega arith), n 8 (omega arith), n 9 (omega arith), n 10 (omega arith), n 11 (omega arith))

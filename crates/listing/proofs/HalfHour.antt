@@ -4,15 +4,21 @@ use mathlib.Core.Path.{◌≡◌, refl, sym, ◌∙◌, ap, ap₂}
 use mathlib.Core.Bool.{true}
 use mathlib.Core.List.{List}
 use lib.IntN.{ℤ}
+use Rattle.std.specs.Prelude.{Result, Ok, Err}
+use Rattle.refusals.specs.declared.Refusal.{Refusal}
 use Rattle.refusals.specs.Causes.{accepted}
-use Rattle.book.specs.declared.Answer.{Answer}
+use Rattle.refusals.specs.Refusal.{number_of, number_given}
+use Rattle.refusals.proofs.Numbers.{not-accepted}
 use Rattle.book.specs.declared.Settings.{Settings}
+use Rattle.book.specs.Settings.{fresh_settings}
 use Rattle.book.specs.Book.{Book, fresh_book, well_formed, lent}
+use Rattle.book.specs.Helpers.{settings_after, answer_of}
 use Rattle.calls.specs.declared.Call.{Call}
 use Rattle.calls.specs.Calls.{book_after}
 use Rattle.allocation.specs.declared.Allocated.{Allocated}
+use Rattle.allocation.specs.declared.Figures.{Figures}
 use Rattle.allocation.specs.Allocate.{Allocation, refused_with, allocate_call}
-use Rattle.allocation.specs.Helpers.{AllocatedAs}
+use Rattle.allocation.specs.Helpers.{allocated_of, AllocatedAs}
 use Rattle.meaning.specs.Demand.{allocation_after, ListSettled, Demanded, Demand3}
 use Rattle.meaning.proofs.Meant.{list-meant}
 use Rattle.meaning.proofs.Settles.{demand-3}
@@ -33,51 +39,57 @@ list-number b ws numbers = by (list_cause ws numbers)
     by zero = refl
     by (suc k) = refl
 
-module _ (words ws numbers : List ℕ) (slice : List ℤ) (a : Answer) (rows' numbers' : List ℕ) (given : ListGives (list_call (fresh_book words) ws numbers) a rows' numbers') where
-  cause-is : a.number ≡ list_cause ws numbers
+module _ (words ws numbers : List ℕ) (slice : List ℤ) (made : Result Settings Refusal) (rows' numbers' : List ℕ) (given : ListGives (list_call (fresh_book words) ws numbers) (answer_of fresh_settings made) rows' numbers') where
+  cause-is : number_given made ≡ list_cause ws numbers
   cause-is = given.number ∙ list-number (fresh_book words) ws numbers
 
-  pub half-hour-refused : (a.number ≡ accepted → ⊥) → SettleGives words ws numbers slice (record { answer = refused_with a.number; settings = a.settings }) rows' numbers' slice
+  pub half-hour-refused : {refusal : Refusal} → made ≡ Err refusal → SettleGives words ws numbers slice (record { answer = refused_with (number_of refusal); settings = fresh_settings }) rows' numbers' slice
   unfolding list_call list_outcome settle_call settle_outcome
-  half-hour-refused h = by (list_cause ws numbers) refl
+  half-hour-refused {refusal} m = by (list_cause ws numbers) refl
     where
-      by : (cause : ℕ) → list_cause ws numbers ≡ cause → SettleGives words ws numbers slice (record { answer = refused_with a.number; settings = a.settings }) rows' numbers' slice
-      by zero e = absurd (h (cause-is ∙ e))
+      number : number_of refusal ≡ list_cause ws numbers
+      number = sym (ap number_given m) ∙ cause-is
+
+      by : (cause : ℕ) → list_cause ws numbers ≡ cause → SettleGives words ws numbers slice (record { answer = refused_with (number_of refusal); settings = fresh_settings }) rows' numbers' slice
+      by zero e = absurd (not-accepted refusal (number ∙ e))
       by (suc k) e =
           let list = ap (λ (c : ℕ). list_outcome c (fresh_book words) ws numbers) e in
           let whole = ap (λ (c : ℕ). settle_outcome c words ws numbers slice) e in
           record {
-            answer = ap refused_with (cause-is ∙ e) ∙ sym (ap (λ (o : SettleOutcome). o.answer) whole);
-            settings = given.settings ∙ ap (λ (o : ListOutcome). o.book.settings) list ∙ sym (ap (λ (o : SettleOutcome). o.book.settings) whole);
+            answer = ap refused_with (number ∙ e) ∙ sym (ap (λ (o : SettleOutcome). o.answer) whole);
+            settings = sym (ap (λ (o : SettleOutcome). o.book.settings) whole);
             rows = given.rows ∙ ap (λ (o : ListOutcome). o.book.rows) list ∙ sym (ap (λ (o : SettleOutcome). o.book.rows) whole);
             numbers-given = given.numbers ∙ ap (λ (o : ListOutcome). o.numbers) list ∙ sym (ap (λ (o : SettleOutcome). o.numbers) whole);
             volumes = sym (ap (λ (o : SettleOutcome). o.volumes) whole);
-            settled = λ z. absurd (h z);
+            settled = λ z. absurd (not-accepted refusal z);
           }
 
-  module _ (h : a.number ≡ accepted) where
+  module _ {settings : Settings} (m : made ≡ Ok settings) where
+    accepted-list : accepted ≡ list_cause ws numbers
+    accepted-list = sym (ap number_given m) ∙ cause-is
+
     list-is : list_call (fresh_book words) ws numbers ≡ list_outcome accepted (fresh_book words) ws numbers
     unfolding list_call
-    list-is = ap (λ (c : ℕ). list_outcome c (fresh_book words) ws numbers) (sym cause-is ∙ h)
+    list-is = ap (λ (c : ℕ). list_outcome c (fresh_book words) ws numbers) (sym accepted-list)
 
     whole_is : settle_call words ws numbers slice ≡ settle_outcome accepted words ws numbers slice
     unfolding settle_call
-    whole_is = ap (λ (c : ℕ). settle_outcome c words ws numbers slice) (sym cause-is ∙ h)
+    whole_is = ap (λ (c : ℕ). settle_outcome c words ws numbers slice) (sym accepted-list)
 
-    book-made : lent a.settings rows' ≡ book_after (fresh_book words) (calls_in ws)
+    book-made : lent settings rows' ≡ book_after (fresh_book words) (calls_in ws)
     unfolding list_outcome
     book-made =
         ap₂ (λ (s : Settings) (r : List ℕ). lent s r)
-        (given.settings ∙ ap (λ (o : ListOutcome). o.book.settings) list-is)
+        (sym (ap (settings_after fresh_settings) m) ∙ given.settings ∙ ap (λ (o : ListOutcome). o.book.settings) list-is)
         (given.rows ∙ ap (λ (o : ListOutcome). o.book.rows) list-is)
 
-    pub half-hour-formed : well_formed (lent a.settings rows') ≡ true
+    pub half-hour-formed : well_formed (lent settings rows') ≡ true
     half-hour-formed = ap well_formed book-made ∙ (list-meant words (calls_in ws)).formed
 
-    pub half-hour-allocated : (answer : Allocated) (after : List ℤ) → AllocatedAs (allocate_call (lent a.settings rows') slice) answer after
-        → SettleGives words ws numbers slice (record { answer = answer; settings = a.settings }) rows' numbers' after
+    pub half-hour-allocated : {outcome : Result Figures Refusal} {after : List ℤ} → AllocatedAs (allocate_call (lent settings rows') slice) outcome after
+        → SettleGives words ws numbers slice (record { answer = allocated_of outcome; settings = settings }) rows' numbers' after
     unfolding list_outcome settle_outcome allocation_after Demand3
-    half-hour-allocated answer after made =
+    half-hour-allocated {outcome} {after} made =
         let call = ap (λ (b : Book). allocate_call b slice) book-made in
         let answered = made.answer-is ∙ ap (λ (o : Allocation). o.answer) call in
         let written = made.volumes-are ∙ ap (λ (o : Allocation). o.volumes) call in
@@ -87,5 +99,5 @@ module _ (words ws numbers : List ℕ) (slice : List ℤ) (a : Answer) (rows' nu
           rows = ap (λ (b : Book). b.rows) book-made ∙ sym (ap (λ (o : SettleOutcome). o.book.rows) whole_is);
           numbers-given = given.numbers ∙ ap (λ (o : ListOutcome). o.numbers) list-is ∙ sym (ap (λ (o : SettleOutcome). o.numbers) whole_is);
           volumes = written ∙ sym (ap (λ (o : SettleOutcome). o.volumes) whole_is);
-          settled = λ z. settled-as words (calls_in ws) slice answer after answered written (demand-3 words (calls_in ws) slice (sym (ap (λ (x : Allocated). x.number) answered) ∙ z));
+          settled = λ z. settled-as words (calls_in ws) slice (allocated_of outcome) after answered written (demand-3 words (calls_in ws) slice (sym (ap (λ (x : Allocated). x.number) answered) ∙ z));
         }

@@ -1,16 +1,19 @@
 -- What the functions that make the calls of a list are held to.
-use Rattle.std.specs.Prelude.{ℕ, Bool, ◌||◌, cond, List, eqb, get_or}
-use Rattle.book.specs.Rows.{Row}
-use Rattle.book.specs.Helpers.{Storing, registration_storing, reading_storing}
-use Rattle.listing.specs.Listed.{register_kind, reading_kind, mpan_in, registration_in, reading_in}
+use Rattle.std.specs.Prelude.{ℕ, ◌≡◌, Result, List, ◌++◌, length, drop, map}
+use Rattle.refusals.specs.declared.Refusal.{Refusal}
+use Rattle.refusals.specs.Refusal.{number_given}
+use Rattle.book.specs.declared.Settings.{Settings}
+use Rattle.book.specs.declared.Answer.{Answer}
+use Rattle.book.specs.Book.{Book}
+use Rattle.calls.specs.Calls.{book_after, numbers_given}
+use Rattle.listing.specs.Listed.{call_of}
 
--- whether the call that stands first in a slice is of a kind that writes rows
-abbrev pub writes_rows : List ℕ → Bool
-writes_rows ws = eqb (get_or ws 0 0) register_kind || eqb (get_or ws 0 0) reading_kind
+-- the answer of a call that left these settings
+abbrev pub given : {A : Type 0} → Result A Refusal → Settings → Answer
+given outcome s = record { number = number_given outcome; settings = s }
 
--- what storing the registration, or else the reading, of that call leaves in rows
-unfoldable pub row_storing : ℕ → List ℕ → List Row → Storing
-row_storing capacity ws =
-    cond (eqb (get_or ws 0 0) register_kind)
-    (registration_storing capacity (mpan_in ws) (registration_in ws))
-    (reading_storing (mpan_in ws) (reading_in ws))
+-- what making calls that stand in arrays leaves: the book after them, and their numbers
+pub record MakesEach (b : Book) (calls : List (List ℕ)) (numbers : List ℕ) (settings_after : Settings) (rows_after numbers_after : List ℕ) : Type 0 where
+  pub settings : settings_after ≡ (book_after b (map call_of calls)).settings
+  pub rows : rows_after ≡ (book_after b (map call_of calls)).rows
+  pub numbers-given : numbers_after ≡ numbers_given b (map call_of calls) ++ drop (length calls) numbers

@@ -2,10 +2,9 @@
 ghost use Rattle.listing.specs.Settle.{SettleGives};
 
 use crate::list::make_calls;
-use allocation::AllocationAnswer;
-use allocation::allocate::{allocate_formed, refused};
+use allocation::allocate::allocate_formed;
+use allocation::{Allocated, AllocationAnswer};
 use book::Settings;
-use refusals::ACCEPTED;
 
 // Makes a list of calls on a fresh book over these rows, writes the calls' numbers, and allocates. The book is not tested
 // again before the allocation: a list of calls from the fresh settings leaves it well formed.
@@ -17,14 +16,13 @@ pub fn settle_list(
 ) -> AllocationAnswer
     ensures { SettleGives rows.old calls.now numbers.old volumes.old result rows.new numbers.new volumes.new }
 {
-    let made = make_calls(Settings::fresh(), rows, calls, numbers);
-    let settings = made.settings;
-    if made.number != ACCEPTED {
-        return AllocationAnswer {
-            answer: refused(made.number),
-            settings,
-        };
+    let fresh = Settings::fresh();
+    let (outcome, settings) = match make_calls(fresh, rows, calls, numbers) {
+        Ok(settings) => (allocate_formed(settings, rows, volumes), settings),
+        Err(refusal) => (Err(refusal), fresh),
+    };
+    AllocationAnswer {
+        answer: Allocated::from(outcome),
+        settings,
     }
-    let answer = allocate_formed(settings, rows, volumes);
-    AllocationAnswer { answer, settings }
 }

@@ -1,7 +1,6 @@
 -- "key=value lines", "Fields, by commas".
-use Rattle.std.specs.Prelude.{ℕ, zero, suc, ◌≤◌, ◌≡◌, Bool, true, false, ◌&&◌, cond, List, [], ◌∷◌, eqb, length, get_or, drop}
-use Rattle.period_file.specs.declared.Number.{Number}
-use Rattle.period_file.specs.declared.Additional.{Additional}
+use Rattle.std.specs.Prelude.{ℕ, zero, suc, Bool, true, false, ◌&&◌, cond, List, [], ◌∷◌, Option, None, Some, eqb, length, get_or}
+use Rattle.std.specs.Option.{option_map, option_and_then}
 use Rattle.period_file.specs.Numbers.{minus_byte, number_of}
 
 abbrev pub comma_byte : ℕ
@@ -31,27 +30,31 @@ unfoldable pub field : ℕ → List ℕ → List ℕ
 field zero text = before_comma text
 field (suc n) text = field n (after_comma text)
 
--- the place of the next field, in a text that is read from `at` on
-pub record NextField (text : List ℕ) (at next : ℕ) : Type 0 where
-  pub within : next ≤ length text
-  pub rest : drop next text ≡ after_comma (drop at text)
-
 -- the number in a field
-unfoldable pub number_at : ℕ → List ℕ → Number
+unfoldable pub number_at : ℕ → List ℕ → Option ℕ
 number_at n text = number_of (field n text)
 
--- "additional or -": with a minus alone there is no additional unit, and its number is 0
+-- what is in form if a test holds, and what is made of a part, if that is in form
+abbrev pub in_form : {A : Type 0} → Bool → Option A → Option A
+in_form ok made = cond ok made None
+
+abbrev pub given : {A B : Type 0} → Option A → (A → Option B) → Option B
+given part make = option_and_then make part
+
+-- the numbers of a text of two fields
+unfoldable pub two_numbers : List ℕ → Option (ℕ × ℕ)
+two_numbers text =
+    in_form (eqb (field_count text) 2)
+    (given (number_at 0 text) (λ first.
+    given (number_at 1 text) (λ second.
+    Some (first, second))))
+
+-- "additional or -": with a minus alone there is no additional unit
 abbrev pub is_minus : List ℕ → Bool
 is_minus text = eqb (length text) 1 && eqb (get_or text 0 0) minus_byte
 
-abbrev pub no_additional : Additional
-no_additional = record { ok = true; flag = 0; unit = 0 }
+unfoldable pub additional_of : List ℕ → Option (Option ℕ)
+additional_of text = cond (is_minus text) (Some None) (option_map Some (number_of text))
 
-abbrev pub an_additional : Number → Additional
-an_additional n = record { ok = n.ok; flag = 1; unit = n.value }
-
-unfoldable pub additional_of : List ℕ → Additional
-additional_of text = cond (is_minus text) no_additional (an_additional (number_of text))
-
-unfoldable pub additional_at : ℕ → List ℕ → Additional
+unfoldable pub additional_at : ℕ → List ℕ → Option (Option ℕ)
 additional_at n text = additional_of (field n text)

@@ -2,4 +2,3 @@
 pub mod Numbers
 pub mod Fields
 pub mod Lines
-pub mod Helpers

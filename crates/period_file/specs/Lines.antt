@@ -1,92 +1,81 @@
 -- The lines of a period file, the order of their kinds, and the call of each.
-use Rattle.std.specs.Prelude.{ℕ, ◌≡◌, Bool, ◌&&◌, ◌||◌, cond, List, [], ◌∷◌, leb, ltb, eqb, length, drop}
-use Rattle.refusals.specs.Causes.{accepted}
+use Rattle.std.specs.Prelude.{ℕ, ◌≡◌, Bool, true, ◌&&◌, ◌||◌, cond, List, [], ◌∷◌, Option, None, Some, MatchOption, leb, ltb, eqb, length, drop}
+use Rattle.std.specs.Option.{option_map, is_some, unwrap_or}
+use Rattle.words.specs.declared.Registration.{Registration}
 use Rattle.book.specs.declared.Setting.{Setting}
 use Rattle.book.specs.declared.Setting.TheVariants.{Shape, Weight, Tolerance, GroupTake}
 use Rattle.book.specs.Book.{Book}
+use Rattle.book.specs.Helpers.{answer_of}
 use Rattle.calls.specs.declared.Call.{Call}
 use Rattle.calls.specs.declared.Call.TheVariants.{Register, Record, Set}
-use Rattle.calls.specs.Calls.{Outcome, call_outcome, Gives}
+use Rattle.calls.specs.Calls.{call_outcome, Gives}
+use Rattle.period_file.specs.declared.LineKind.{LineKind}
+use Rattle.period_file.specs.declared.LineKind.TheVariants as kind
 use Rattle.period_file.specs.declared.Taken.{Taken}
-use Rattle.period_file.specs.declared.Registered.{Registered}
-use Rattle.period_file.specs.declared.Line.{Line}
-use Rattle.period_file.specs.declared.Line.TheVariants.{OutOfForm, Makes}
 use Rattle.period_file.specs.Numbers.{signed_of, number_of}
-use Rattle.period_file.specs.Fields.{starts_with, field_count, number_at, additional_at}
-
--- a line that is in form if a test holds
-abbrev pub in_form : Bool → Line → Line
-in_form ok line = cond ok line OutOfForm
+use Rattle.period_file.specs.Fields.{starts_with, field_count, in_form, given, number_at, two_numbers, additional_at}
 
 -- "take", "tolerance": one number; "only take may have a minus"
-unfoldable pub take_line : List ℕ → Line
-take_line value = in_form (signed_of value).ok (Makes (Set (GroupTake (signed_of value).value)))
+unfoldable pub take_line : List ℕ → Option Call
+take_line value = option_map (λ wh. Set (GroupTake wh)) (signed_of value)
 
-unfoldable pub tolerance_line : List ℕ → Line
-tolerance_line value = in_form (number_of value).ok (Makes (Set (Tolerance (number_of value).value)))
+unfoldable pub tolerance_line : List ℕ → Option Call
+tolerance_line value = option_map (λ g. Set (Tolerance g)) (number_of value)
 
 -- "weight=class,thousandths"
-unfoldable pub weight_line : List ℕ → Line
-weight_line value =
-    in_form (eqb (field_count value) 2 && (number_at 0 value).ok && (number_at 1 value).ok)
-    (Makes (Set (Weight (number_at 0 value).value (number_at 1 value).value)))
+unfoldable pub weight_line : List ℕ → Option Call
+weight_line value = option_map (λ fields. Set (Weight fields.0 fields.1)) (two_numbers value)
 
 -- "shape=category,Wh"
-unfoldable pub shape_line : List ℕ → Line
-shape_line value =
-    in_form (eqb (field_count value) 2 && (number_at 0 value).ok && (number_at 1 value).ok)
-    (Makes (Set (Shape (number_at 0 value).value (number_at 1 value).value)))
+unfoldable pub shape_line : List ℕ → Option Call
+shape_line value = option_map (λ fields. Set (Shape fields.0 fields.1)) (two_numbers value)
+
+-- the flag of an additional unit, and its number, which is 0 where there is none
+abbrev pub flag_of : Option ℕ → ℕ
+flag_of additional = cond (is_some additional) 1 0
 
 -- "segment,direction,status,base,additional or -,category,LLF", and of document 02, request 1, "the meter line ends with these two numbers", the embedded network and the tariff: the fields after the MPAN
-unfoldable pub registration_at : List ℕ → Registered
+unfoldable pub registration_at : List ℕ → Option Registration
 registration_at value =
-    record {
-      ok =
-          (number_at 1 value).ok
-          && (number_at 2 value).ok
-          && (number_at 3 value).ok
-          && (number_at 4 value).ok
-          && (additional_at 5 value).ok
-          && (number_at 6 value).ok
-          && (number_at 7 value).ok
-          && (number_at 8 value).ok
-          && (number_at 9 value).ok;
-      registration =
-          record {
-            segment = (number_at 1 value).value;
-            direction = (number_at 2 value).value;
-            status = (number_at 3 value).value;
-            base = (number_at 4 value).value;
-            flag = (additional_at 5 value).flag;
-            additional = (additional_at 5 value).unit;
-            category = (number_at 6 value).value;
-            llf = (number_at 7 value).value;
-            network = (number_at 8 value).value;
-            tariff = (number_at 9 value).value;
-          };
-    }
+    given (number_at 1 value) (λ segment.
+    given (number_at 2 value) (λ direction.
+    given (number_at 3 value) (λ status.
+    given (number_at 4 value) (λ base.
+    given (additional_at 5 value) (λ additional.
+    given (number_at 6 value) (λ category.
+    given (number_at 7 value) (λ llf.
+    given (number_at 8 value) (λ network.
+    given (number_at 9 value) (λ tariff.
+    Some (record {
+      segment = segment;
+      direction = direction;
+      status = status;
+      base = base;
+      flag = flag_of additional;
+      additional = unwrap_or additional 0;
+      category = category;
+      llf = llf;
+      network = network;
+      tariff = tariff;
+    }))))))))))
 
 -- "meter=MPAN,segment,direction,status,base,additional or -,category,LLF" with the two numbers of request 1: ten fields
-unfoldable pub meter_line : List ℕ → Line
+unfoldable pub meter_line : List ℕ → Option Call
 meter_line value =
-    in_form (eqb (field_count value) 10 && (number_at 0 value).ok && (registration_at value).ok)
-    (Makes (Register (number_at 0 value).value (registration_at value).registration))
+    in_form (eqb (field_count value) 10)
+    (given (number_at 0 value) (λ mpan.
+    given (registration_at value) (λ registration.
+    Some (Register mpan registration))))
 
 -- "reading=MPAN,issue,quality,Wh"
-unfoldable pub reading_line : List ℕ → Line
+unfoldable pub reading_line : List ℕ → Option Call
 reading_line value =
-    in_form
-    (eqb (field_count value) 4
-    && (number_at 0 value).ok
-    && (number_at 1 value).ok
-    && (number_at 2 value).ok
-    && (number_at 3 value).ok)
-    (Makes (Record (number_at 0 value).value
-    (record {
-      issue = (number_at 1 value).value;
-      quality = (number_at 2 value).value;
-      consumption = (number_at 3 value).value;
-    })))
+    in_form (eqb (field_count value) 4)
+    (given (number_at 0 value) (λ mpan.
+    given (number_at 1 value) (λ issue.
+    given (number_at 2 value) (λ quality.
+    given (number_at 3 value) (λ consumption.
+    Some (Record mpan (record { issue = issue; quality = quality; consumption = consumption })))))))
 
 -- "key=": the bytes of take=, tolerance=, weight=, shape=, meter= and reading=
 abbrev pub take_key : List ℕ
@@ -108,7 +97,7 @@ abbrev pub reading_key : List ℕ
 reading_key = 114 ∷ 101 ∷ 97 ∷ 100 ∷ 105 ∷ 110 ∷ 103 ∷ 61 ∷ []
 
 -- "key=value": the line of the key that the bytes start with; an empty line has none
-unfoldable pub keyed_line : List ℕ → Line
+unfoldable pub keyed_line : List ℕ → Option Call
 keyed_line line =
     cond (starts_with take_key line) (take_line (drop 5 line))
     (cond (starts_with tolerance_key line) (tolerance_line (drop 10 line))
@@ -116,47 +105,60 @@ keyed_line line =
     (cond (starts_with shape_key line) (shape_line (drop 6 line))
     (cond (starts_with meter_key line) (meter_line (drop 6 line))
     (cond (starts_with reading_key line) (reading_line (drop 8 line))
-    OutOfForm)))))
+    None)))))
 
 -- "of at most 80 bytes before the line feed"
 abbrev pub line_most : ℕ
 line_most = 80
 
--- a line by itself
-unfoldable pub line_of : List ℕ → Line
+-- a line by itself: its call, and none for a line out of form
+unfoldable pub line_of : List ℕ → Option Call
 line_of line = in_form (leb (length line) line_most) (keyed_line line)
 
--- "take, tolerance (each at most once), weight, shape, meter, reading, in that order of kinds": the place of a line's kind in the order, by its call
-abbrev pub setting_kind : Setting → ℕ
-setting_kind (GroupTake wh) = 1
-setting_kind (Tolerance g) = 2
-setting_kind (Weight class thousandths) = 3
-setting_kind (Shape category wh) = 4
+-- the kind of a line, by its call
+abbrev pub setting_kind : Setting → LineKind
+setting_kind (GroupTake wh) = kind.Take
+setting_kind (Tolerance g) = kind.Tolerance
+setting_kind (Weight class thousandths) = kind.Weight
+setting_kind (Shape category wh) = kind.Shape
 
-abbrev pub call_kind : Call → ℕ
+abbrev pub call_kind : Call → LineKind
 call_kind (Set x) = setting_kind x
-call_kind (Register mpan r) = 5
-call_kind (Record mpan r) = 6
+call_kind (Register mpan r) = kind.Meter
+call_kind (Record mpan r) = kind.Reading
 
--- 0 for a line out of form
-abbrev pub kind_of : Line → ℕ
-kind_of OutOfForm = 0
-kind_of (Makes c) = call_kind c
+-- "take, tolerance (each at most once), weight, shape, meter, reading, in that order of kinds": the place of a kind in the order
+abbrev pub kind_place : LineKind → ℕ
+kind_place kind.Take = 1
+kind_place kind.Tolerance = 2
+kind_place kind.Weight = 3
+kind_place kind.Shape = 4
+kind_place kind.Meter = 5
+kind_place kind.Reading = 6
 
--- whether a kind may stand after the last one: a later kind, or the same again if it may stand more than once
-abbrev pub kind_follows : ℕ → ℕ → Bool
-kind_follows last kind = ltb last kind || (eqb last kind && ltb 2 kind)
+-- whether a kind may stand after the last one, if there is one: a later kind, or the same again if it may stand more than once
+abbrev pub kind_follows : Option LineKind → LineKind → Bool
+kind_follows None new = true
+kind_follows (Some last) new =
+    ltb (kind_place last) (kind_place new) || (eqb (kind_place last) (kind_place new) && ltb 2 (kind_place new))
 
 -- a line after lines of which the last had that kind
-unfoldable pub line_after : ℕ → List ℕ → Line
-line_after last line = in_form (kind_follows last (kind_of (line_of line))) (line_of line)
+unfoldable pub line_after : Option LineKind → List ℕ → Option Call
+line_after last line = given (line_of line) (λ call. in_form (kind_follows last (call_kind call)) (Some call))
 
--- "makes the call of each": what the call of a line leaves; a line out of form makes none
-unfoldable pub line_outcome : Book → Line → Outcome
-line_outcome b OutOfForm = record { number = accepted; book = b }
-line_outcome b (Makes c) = call_outcome b c
+-- "makes the call of each": a line in form gives its kind, and what its call leaves
+pub record CallTaken (b : Book) (made : Option Call) (taken : Taken) (rows_after : List ℕ) : Type 0 where
+  pub call : Call
+  pub makes : made ≡ Some call
+  pub kind : taken.kind ≡ call_kind call
+  pub gives : Gives (call_outcome b call) (answer_of b.settings taken.outcome) rows_after
 
--- what taking a line gives, after lines of which the last had that kind: its kind, and what its call leaves
-pub record LineTaken (b : Book) (last : ℕ) (line : List ℕ) (taken : Taken) (rows_after : List ℕ) : Type 0 where
-  pub kind : taken.kind ≡ kind_of (line_after last line)
-  pub gives : Gives (line_outcome b (line_after last line)) taken.answer rows_after
+-- a line out of form makes none, and leaves the rows
+pub record NoneTaken (b : Book) (made : Option Call) (rows_after : List ℕ) : Type 0 where
+  pub makes_none : made ≡ None
+  pub rows : rows_after ≡ b.rows
+
+-- what taking a line gives, after lines of which the last had that kind
+abbrev pub LineTaken : Book → Option LineKind → List ℕ → Option Taken → List ℕ → Type 0
+LineTaken b last line taken rows_after =
+    MatchOption taken (NoneTaken b (line_after last line) rows_after) (λ t. CallTaken b (line_after last line) t rows_after)

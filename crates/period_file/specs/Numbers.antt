@@ -1,7 +1,6 @@
 -- "Numbers have 1 to 18 digits and no leading zeros; only take may have a minus, never before 0". A text is a list of bytes.
-use Rattle.std.specs.Prelude.{ℕ, ◌+◌, ◌*◌, ◌-◌, Bool, true, false, not, ◌&&◌, cond, List, [], ◌∷◌, leb, ltb, eqb, pos, neg_ℤ, length, get_or}
-use Rattle.period_file.specs.declared.Number.{Number}
-use Rattle.period_file.specs.declared.Signed.{Signed}
+use Rattle.std.specs.Prelude.{ℕ, ◌+◌, ◌*◌, ◌-◌, Bool, true, not, ◌&&◌, cond, List, [], ◌∷◌, Option, None, Some, leb, ltb, eqb, ℤ, pos, neg_ℤ, length, get_or}
+use Rattle.std.specs.Option.{option_map, option_and_then}
 
 -- the bytes 0, 9 and -
 abbrev pub zero_byte : ℕ
@@ -36,28 +35,18 @@ is_long_enough text = leb 1 (length text) && leb (length text) digits_most
 abbrev pub has_leading_zero : List ℕ → Bool
 has_leading_zero text = ltb 1 (length text) && eqb (get_or text 0 0) zero_byte
 
--- a text that is a number, with its value, and one that is none
-abbrev pub a_number : ℕ → Number
-a_number n = record { ok = true; value = n }
+-- "Numbers have 1 to 18 digits and no leading zeros": the value of a text that is a number, and none for any other text
+unfoldable pub digits_of : List ℕ → Option ℕ
+digits_of text = cond (all_digits text) (Some (value_after 0 text)) None
 
-abbrev pub no_number : Number
-no_number = record { ok = false; value = 0 }
-
--- "Numbers have 1 to 18 digits and no leading zeros"
-unfoldable pub digits_of : List ℕ → Number
-digits_of text = cond (all_digits text) (a_number (value_after 0 text)) no_number
-
-unfoldable pub number_of : List ℕ → Number
-number_of text = cond (is_long_enough text && not (has_leading_zero text)) (digits_of text) no_number
+unfoldable pub number_of : List ℕ → Option ℕ
+number_of text = cond (is_long_enough text && not (has_leading_zero text)) (digits_of text) None
 
 -- "a minus, never before 0"
-abbrev pub less_than_zero : Number → Signed
-less_than_zero n = record { ok = n.ok && not (eqb n.value 0); value = neg_ℤ (pos n.value) }
-
-abbrev pub not_less_than_zero : Number → Signed
-not_less_than_zero n = record { ok = n.ok; value = pos n.value }
+abbrev pub less_than_zero : ℕ → Option ℤ
+less_than_zero n = cond (eqb n 0) None (Some (neg_ℤ (pos n)))
 
 -- a number, or a minus and a number
-unfoldable pub signed_of : List ℕ → Signed
-signed_of [] = not_less_than_zero no_number
-signed_of (byte ∷ text) = cond (eqb byte minus_byte) (less_than_zero (number_of text)) (not_less_than_zero (number_of (byte ∷ text)))
+unfoldable pub signed_of : List ℕ → Option ℤ
+signed_of [] = None
+signed_of (byte ∷ text) = cond (eqb byte minus_byte) (option_and_then less_than_zero (number_of text)) (option_map pos (number_of (byte ∷ text)))

@@ -1,94 +1,56 @@
 // Numbers as texts of digits.
-ghost use Rattle.std.specs.Prelude.{◌≡◌, ◌^◌, ◌≤◌, ◌<◌, length};
-ghost use Rattle.period_file.specs.Numbers.{is_digit, digits_of, number_of, signed_of};
-
-use crate::{Number, Signed};
+ghost use Rattle.std.specs.Prelude.{◌≡◌, ◌^◌, ◌≤◌, ◌<◌, length, IfSome};
+ghost use Rattle.period_file.specs.Numbers.{digits_of, number_of, signed_of};
 
 pub const DIGITS_MAX: usize = 18;
 
 const ZERO: u8 = b'0';
 
-const NINE: u8 = b'9';
-
-const ZERO_VALUE: u64 = 48;
-
-pub const MINUS: u8 = b'-';
-
-fn wide(byte: u8) -> u64
-    ensures { result ≡ byte }
-{
-    byte as u64
-}
-
-fn is_digit(byte: u8) -> bool
-    ensures { result ≡ is_digit byte }
-{
-    (ZERO <= byte) & (byte <= NINE)
-}
-
 // The value of a text of digits. 18 of them stay below 10^18, so the sum never wraps.
-fn digits(text: &[u8]) -> Number
+// Kept: std's `parse` would take a plus before the digits, which no number has; the length and leading zeros are tested anyway.
+#[tactic(auto, using(crate::proofs::Digits::digit_steps))]
+fn digits(text: &[u8]) -> Option<u64>
     requires { length text.now ≤ 18 }
     ensures value { result ≡ digits_of text.now }
-    ensures value_bound { result.value < 10 ^ 18 }
+    ensures value_bound { IfSome result (λ n. n < 10 ^ 18) }
 {
     let mut value = 0;
-    let mut i = 0;
-    while i < text.len() {
-        let byte = text[i];
-        if !is_digit(byte) {
-            return Number {
-                ok: false,
-                value: 0,
-            };
+    for byte in text {
+        if !byte.is_ascii_digit() {
+            return None;
         }
-        value = 10 * value + (wide(byte) - ZERO_VALUE);
-        i += 1;
+        value = 10 * value + u64::from(*byte - ZERO);
     }
-    Number { ok: true, value }
+    Some(value)
 }
 
 // The number that a text is.
-pub fn number(text: &[u8]) -> Number
+#[tactic(auto, unfolding(crate::specs::Numbers::number_of))]
+pub fn number(text: &[u8]) -> Option<u64>
     ensures value { result ≡ number_of text.now }
-    ensures value_bound { result.value < 10 ^ 18 }
+    ensures value_bound { IfSome result (λ n. n < 10 ^ 18) }
 {
-    let n = text.len();
-    if !((1 <= n) & (n <= DIGITS_MAX)) {
-        return Number {
-            ok: false,
-            value: 0,
-        };
+    if text.is_empty() || DIGITS_MAX < text.len() {
+        return None;
     }
-    if (1 < n) & (text[0] == ZERO) {
-        return Number {
-            ok: false,
-            value: 0,
-        };
+    if let [ZERO, _, ..] = text {
+        return None;
     }
     digits(text)
 }
 
 // The number that a text is, where a minus may stand before a number that is not 0.
-pub fn signed(text: &[u8]) -> Signed
+#[tactic(auto, using(crate::proofs::Prefixes::signed_by_test))]
+pub fn signed(text: &[u8]) -> Option<i64>
     ensures { result ≡ signed_of text.now }
 {
-    if text.len() == 0 {
-        return Signed {
-            ok: false,
-            value: 0,
-        };
+    if let Some(after_minus) = text.strip_prefix(b"-") {
+        let size = number(after_minus)?;
+        if size == 0 {
+            return None;
+        }
+        return Some(-size.cast_signed());
     }
-    if text[0] == MINUS {
-        let size = number(&text[1..]);
-        return Signed {
-            ok: size.ok & (size.value != 0),
-            value: -(size.value as i64),
-        };
-    }
-    let size = number(text);
-    Signed {
-        ok: size.ok,
-        value: size.value as i64,
-    }
+    let size = number(text)?;
+    Some(size.cast_signed())
 }

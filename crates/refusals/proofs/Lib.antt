@@ -1,2 +1,3 @@
 -- Laws of how a refusal is chosen.
 pub mod Passed
+pub mod Numbers

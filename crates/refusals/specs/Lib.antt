@@ -1,2 +1,3 @@
 -- The numbers of refusals, and how one is chosen.
 pub mod Causes
+pub mod Refusal

@@ -1,31 +1,46 @@
-// The number that a call answers: 0, or that of the one refusal given. Every crate takes these numbers from here.
+// What a call answers: an acceptance, or the one refusal given, under the numbers of the table. Every crate takes them from here.
 #![tactic(auto)]
 
+ghost use Rattle.std.specs.Prelude.{◌≡◌};
+ghost use Rattle.refusals.specs.Refusal.{number_of, number_given};
+
+// Kept: a number, since users see it beside those of the refusals; in the code an acceptance is an `Ok`.
 pub const ACCEPTED: u64 = 0;
 
-pub const BOOK_ILL_FORMED: u64 = 1;
+// Why a call is refused. Each is the number that users see.
+#[derive(Clone, Copy, Debug, PartialEq, Eq)]
+pub enum Refusal {
+    BookIllFormed = 1,
+    ArgumentOutOfRange = 2,
+    QualityRefused = 3,
+    MeterUnknown = 4,
+    IssueNotAbove = 5,
+    CapacityReached = 6,
+    VolumesShort = 7,
+    TakeUnset = 8,
+    ShapeOfDefaultMissing = 9,
+    WeightedBelowOne = 10,
+    ToleranceExceeded = 11,
+    TotalsShort = 12,
+    // A calls slice that is no whole number of calls, or a numbers slice that is too short.
+    ListMisshapen = 19,
+}
 
-pub const ARGUMENT_OUT_OF_RANGE: u64 = 2;
+impl From<Refusal> for u64 {
+    ghost from_gives = { λ refusal number. number ≡ number_of refusal };
 
-pub const QUALITY_REFUSED: u64 = 3;
+    fn from(refusal: Refusal) -> u64 {
+        // Kept: `as`, the one way from an enum to its number.
+        refusal as u64
+    }
+}
 
-pub const METER_UNKNOWN: u64 = 4;
-
-pub const ISSUE_NOT_ABOVE: u64 = 5;
-
-pub const CAPACITY_REACHED: u64 = 6;
-
-pub const VOLUMES_SHORT: u64 = 7;
-
-pub const TAKE_UNSET: u64 = 8;
-
-pub const SHAPE_OF_DEFAULT_MISSING: u64 = 9;
-
-pub const WEIGHTED_BELOW_ONE: u64 = 10;
-
-pub const TOLERANCE_EXCEEDED: u64 = 11;
-
-pub const TOTALS_SHORT: u64 = 12;
-
-// A calls slice that is no whole number of calls, or a numbers slice that is too short.
-pub const LIST_MISSHAPEN: u64 = 19;
+// The number of an outcome.
+pub fn number_given<T>(outcome: &Result<T, Refusal>) -> u64
+    ensures { result ≡ number_given outcome.now }
+{
+    match outcome {
+        Ok(_) => ACCEPTED,
+        Err(refusal) => u64::from(*refusal),
+    }
+}

@@ -1,5 +1,4 @@
--- What the program prints, and what writing it into a buffer does.
+-- What the program prints.
 pub mod Numbers
 pub mod Lines
-pub mod Helpers
 pub mod Example

@@ -1,5 +1,5 @@
-// What the program `settle` prints, written into a lent buffer: refusals, a line out of form, and the outcome of the
-// allocation. Each function is given how many bytes of the buffer wait to be written, and gives how many wait then.
+// What the program `settle` prints, put behind the text that waits: refusals, a line out of form, and the outcome of the
+// allocation.
 #![tactic(auto)]
 
 pub mod lines;

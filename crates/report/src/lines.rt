@@ -1,114 +1,116 @@
 // Lines, and the text of an allocation.
-ghost use Rattle.std.specs.Prelude.{◌+◌, ◌*◌, ◌≤◌, ◌++◌, length};
-ghost use Rattle.report.specs.Numbers.{decimal};
-ghost use Rattle.report.specs.Lines.{value_line, signed_line, refused_line, bad_line, count_lines, figure_lines, volume_line, volume_lines, allocation_text};
-ghost use Rattle.report.specs.Helpers.{Printed};
+ghost use Rattle.std.specs.Prelude.{◌+◌, ◌*◌, ◌<◌, ◌≤◌, ◌++◌, length};
+ghost use Rattle.arrayvec.specs.ArrayVec.{array_vec_len, Extends};
+ghost use Rattle.report.specs.Lines.{line_feed, refused_line, bad_line, count_lines, figure_lines, volume_line, volume_lines, allocation_text};
 
-use crate::text::{put, put_all, put_number, put_signed};
+use crate::text::{put_all, put_number};
 use allocation::Allocated;
-use integers::magnitude;
+use arrayvec::ArrayVec;
+use itoa::Integer;
 use refusals::ACCEPTED;
 
 const LINE_FEED: u8 = b'\n';
 
-// A key with a number, and the line of one; then the line of a key with a number that may be below 0.
-
-fn put_keyed(out: &mut [u8], used: usize, key: &[u8], n: u64) -> usize
-    requires { used + (length key.now + 20) ≤ length out.old }
-    ensures { Printed (length key.now + 20) out.old used (key.now ++ decimal n) out.new result }
+// A key with a number.
+fn put_keyed<const N: usize, I: Integer>(out: &mut ArrayVec<u8, N>, key: &[u8], n: I)
+    requires { array_vec_len out.old + length key.now + I.MAX_STR_LEN ≤ N }
+    ensures text { Extends out.old (key.now ++ I.text n) out.new }
+    ensures short { length (I.text n) ≤ I.MAX_STR_LEN }
 {
-    let keyed = put_all(out, used, key);
-    put_number(out, keyed, n)
+    put_all(out, key);
+    put_number(out, n);
 }
 
-fn put_value(out: &mut [u8], used: usize, key: &[u8], n: u64) -> usize
-    requires { used + (length key.now + 21) ≤ length out.old }
-    ensures { Printed (length key.now + 21) out.old used (value_line key.now n) out.new result }
+// The line of a key with a number.
+fn put_value<const N: usize, I: Integer>(out: &mut ArrayVec<u8, N>, key: &[u8], n: I)
+    requires { array_vec_len out.old + length key.now + I.MAX_STR_LEN < N }
+    ensures text { Extends out.old (key.now ++ (I.text n ++ line_feed)) out.new }
+    ensures short { length (I.text n) ≤ I.MAX_STR_LEN }
 {
-    let value = put_keyed(out, used, key, n);
-    put(out, value, LINE_FEED)
-}
-
-fn put_signed_value(out: &mut [u8], used: usize, key: &[u8], n: i64) -> usize
-    requires { used + (length key.now + 22) ≤ length out.old }
-    ensures { Printed (length key.now + 22) out.old used (signed_line key.now n) out.new result }
-{
-    let keyed = put_all(out, used, key);
-    let value = put_signed(out, keyed, n);
-    put(out, value, LINE_FEED)
+    put_keyed(out, key, n);
+    out.push(LINE_FEED);
 }
 
 // `refused=line,number`
-pub fn put_refused(out: &mut [u8], used: usize, line: u64, number: u64) -> usize
-    requires { used + 50 ≤ length out.old }
-    ensures { Printed 50 out.old used (refused_line line number) out.new result }
+// Kept: it prints any number; which refusal it is, is the caller's.
+#[tactic(auto, using(crate::proofs::Decimal::printed), unfolding(crate::specs::Lines::refused_line))]
+pub fn put_refused<const N: usize>(out: &mut ArrayVec<u8, N>, line: u64, number: u64)
+    requires { array_vec_len out.old + 50 ≤ N }
+    ensures text { Extends out.old (refused_line line number) out.new }
+    ensures short { array_vec_len out.new ≤ array_vec_len out.old + 50 }
 {
-    let first = put_keyed(out, used, b"refused=", line);
-    put_value(out, first, b",", number)
+    put_keyed(out, b"refused=", line);
+    put_value(out, b",", number);
 }
 
 // `line=number`
-pub fn put_bad_line(out: &mut [u8], used: usize, line: u64) -> usize
-    requires { used + 50 ≤ length out.old }
-    ensures { Printed 50 out.old used (bad_line line) out.new result }
+#[tactic(auto, using(crate::proofs::Decimal::printed), unfolding(crate::specs::Lines::value_line))]
+pub fn put_bad_line<const N: usize>(out: &mut ArrayVec<u8, N>, line: u64)
+    requires { array_vec_len out.old + 50 ≤ N }
+    ensures text { Extends out.old (bad_line line) out.new }
+    ensures short { array_vec_len out.new ≤ array_vec_len out.old + 50 }
 {
-    put_value(out, used, b"line=", line)
+    put_value(out, b"line=", line);
 }
 
 // `volume=unit,Wh`, if the volume is not 0
-fn put_volume(out: &mut [u8], used: usize, unit: u64, wh: i64) -> usize
-    requires { used + 50 ≤ length out.old }
-    ensures { Printed 50 out.old used (volume_line unit wh) out.new result }
+#[tactic(auto, using(crate::proofs::Decimal::printed), unfolding(crate::specs::Lines::volume_line))]
+fn put_volume<const N: usize>(out: &mut ArrayVec<u8, N>, unit: usize, wh: i64)
+    requires { array_vec_len out.old + 50 ≤ N }
+    ensures text { Extends out.old (volume_line unit wh) out.new }
+    ensures short { array_vec_len out.new ≤ array_vec_len out.old + 50 }
 {
-    if magnitude(wh) == 0 {
-        return used;
+    if wh != 0 {
+        put_keyed(out, b"volume=", unit);
+        put_value(out, b",", wh);
     }
-    let first = put_keyed(out, used, b"volume=", unit);
-    put_signed_value(out, first, b",", wh)
 }
 
-fn put_volumes(out: &mut [u8], used: usize, volumes: &[i64]) -> usize
-    requires { used + 50 * length volumes.now ≤ length out.old }
-    ensures { Printed (50 * length volumes.now) out.old used (volume_lines 0 volumes.now) out.new result }
+#[tactic(auto, unfolding(crate::specs::Lines::volume_lines))]
+fn put_volumes<const N: usize>(out: &mut ArrayVec<u8, N>, volumes: &[i64])
+    requires { array_vec_len out.old + 50 * length volumes.now ≤ N }
+    ensures text { Extends out.old (volume_lines 0 volumes.now) out.new }
+    ensures short { array_vec_len out.new ≤ array_vec_len out.old + 50 * length volumes.now }
 {
-    let mut at = used;
-    let mut i = 0;
-    while i < volumes.len() {
-        at = put_volume(out, at, i as u64, volumes[i]);
-        i += 1;
+    for (unit, wh) in volumes.iter().enumerate() {
+        put_volume(out, unit, *wh);
     }
-    at
 }
 
-fn put_counts(out: &mut [u8], used: usize, a: Allocated) -> usize
-    requires { used + 116 ≤ length out.old }
-    ensures { Printed 116 out.old used (count_lines a) out.new result }
+#[tactic(auto, using(crate::proofs::Decimal::printed), unfolding(crate::specs::Lines::count_lines, crate::specs::Lines::value_line))]
+fn put_counts<const N: usize>(out: &mut ArrayVec<u8, N>, a: Allocated)
+    requires { array_vec_len out.old + 116 ≤ N }
+    ensures text { Extends out.old (count_lines a) out.new }
+    ensures short { array_vec_len out.new ≤ array_vec_len out.old + 116 }
 {
-    let actual = put_value(out, used, b"actual=", a.actual);
-    let estimated = put_value(out, actual, b"estimated=", a.estimated);
-    let defaulted = put_value(out, estimated, b"defaulted=", a.defaulted);
-    put_value(out, defaulted, b"idle=", a.idle)
+    put_value(out, b"actual=", a.actual);
+    put_value(out, b"estimated=", a.estimated);
+    put_value(out, b"defaulted=", a.defaulted);
+    put_value(out, b"idle=", a.idle);
 }
 
-fn put_figures(out: &mut [u8], used: usize, a: Allocated) -> usize
-    requires { used + 181 ≤ length out.old }
-    ensures { Printed 181 out.old used (figure_lines a) out.new result }
+#[tactic(auto, using(crate::proofs::Decimal::printed), unfolding(crate::specs::Lines::figure_lines, crate::specs::Lines::signed_line))]
+fn put_figures<const N: usize>(out: &mut ArrayVec<u8, N>, a: Allocated)
+    requires { array_vec_len out.old + 181 ≤ N }
+    ensures text { Extends out.old (figure_lines a) out.new }
+    ensures short { array_vec_len out.new ≤ array_vec_len out.old + 181 }
 {
-    let counts = put_counts(out, used, a);
-    let unallocated = put_signed_value(out, counts, b"unallocated=", a.unallocated);
-    put_signed_value(out, unallocated, b"weighted=", a.weighted)
+    put_counts(out, a);
+    put_value(out, b"unallocated=", a.unallocated);
+    put_value(out, b"weighted=", a.weighted);
 }
 
 // The status of an allocation, and the figures and volumes of an accepted one.
-pub fn put_allocation(out: &mut [u8], used: usize, a: Allocated, volumes: &[i64]) -> usize
+#[tactic(auto, using(crate::proofs::Decimal::printed), unfolding(crate::specs::Lines::allocation_text, crate::specs::Lines::value_line))]
+pub fn put_allocation<const N: usize>(out: &mut ArrayVec<u8, N>, a: Allocated, volumes: &[i64])
     requires volumes_len_bound { length volumes.now ≤ 32 }
-    requires used_in_bounds { used + 2048 ≤ length out.old }
-    ensures { Printed 2048 out.old used (allocation_text a volumes.now) out.new result }
+    requires room { array_vec_len out.old + 2048 ≤ N }
+    ensures text { Extends out.old (allocation_text a volumes.now) out.new }
+    ensures short { array_vec_len out.new ≤ array_vec_len out.old + 2048 }
 {
-    let status = put_value(out, used, b"status=", a.number);
-    if a.number != ACCEPTED {
-        return status;
+    put_value(out, b"status=", a.number);
+    if a.number == ACCEPTED {
+        put_figures(out, a);
+        put_volumes(out, volumes);
     }
-    let figures = put_figures(out, status, a);
-    put_volumes(out, figures, volumes)
 }

@@ -3,6 +3,7 @@
 
 use std::io;
 
+// Kept: `rt ci` runs a program on one stored input, so each input that is tried has a program of its own.
 fn main(rt: HostRuntime) -> io::Result<()> {
     settle_run::run(&rt, &mut rt.stdin(), &mut rt.stdout())
 }

@@ -1,39 +1,29 @@
 -- Attempts to read, one after the other.
-use Rattle.std.proofs.Common.{◌≡◌, ℕ, ◌*◌, ◌≤◌, true, false, List, length, [], ◌∷◌, ◌++◌, sym, refl, ap, ◌∙◌, arith}
-use Rattle.report.proofs.Appending.{at_most}
-use Rattle.settle_run.specs.declared.State.{State}
+use Rattle.std.proofs.Common.{◌≡◌, ℕ, ◌*◌, ◌≤◌, true, List, [], ◌∷◌, ◌++◌, length, arith, sym, refl, ap, ◌∙◌}
+use Rattle.arrayvec.specs.ArrayVec.{ArrayVec}
 use Rattle.settle_run.specs.Program.{Work, Step, fresh_work, take_bytes, take_read, Attempt, gave, again, failed, take_attempt, take_attempts, attempts_text, given, all_went_on, ended, end_text, settle_text}
-use Rattle.settle_run.specs.Helpers.{held, Took, Between, Turned, Read}
-use Rattle.settle_run.proofs.Steps.{printed-nothing}
+use Rattle.settle_run.specs.Helpers.{Took, Turned, Read}
 use Rattle.settle_run.proofs.Bytes.{chunks}
 
--- an attempt that gave nothing, after what waited was written
-abbrev pub nothing_read : (attempt : Attempt) {before s : State} {line rows out : List ℕ} → Between before line out
-    → held s line rows ≡ (take_attempt (held before line rows) attempt).work → (take_attempt (held before line rows) attempt).text ≡ []
-    → s.length ≡ before.length → s.used ≡ 0 → Turned before line rows out s line rows out
-nothing_read attempt {out = out} b work text same none =
-    record {
-      attempt = attempt;
-      work = work;
-      text = rw (text, none) (printed-nothing 51200 out 0 (omega arith));
-      between = record { line-long = b.line-long; line-short = omega (arith, b.line-short); out-long = b.out-long; waiting = omega arith };
-    }
-
--- an attempt that gave so many bytes
-abbrev pub bytes_read : (bytes : List ℕ) (n : ℕ) {before s : State} {line rows out line₂ rows₂ out₂ : List ℕ} → n ≤ 1024 → Between before line out
-    → length line₂ ≡ length line → length out₂ ≡ length out → Took (take_attempt (held before line rows) (gave bytes)) (50 * n) out 0 s line₂ rows₂ out₂
-    → Turned before line rows out s line₂ rows₂ out₂
-bytes_read bytes n h b line_same out_same taken =
+-- an attempt that gave bytes, after what waited was written
+abbrev pub bytes_read : (bytes : List ℕ) {before w : Work} {waited waits : ArrayVec ℕ} → length bytes ≤ 1024 → waited.items ≡ []
+    → Took (take_attempt before (gave bytes)) (50 * length bytes) waited w waits → Turned before w waits
+bytes_read bytes h none taken =
     record {
       attempt = gave bytes;
       work = taken.work;
-      text = at_most 51200 (omega arith) taken.text;
-      between = record {
-        line-long = omega (arith, b.line-long);
-        line-short = taken.line-short;
-        out-long = omega (arith, b.out-long);
-        waiting = omega (arith, taken.text.short);
-      };
+      text = rw none at taken.text;
+      room = record { short = omega (arith, taken.short, ap length none) };
+    }
+
+-- an attempt that gave nothing
+abbrev pub nothing_read : {w : Work} {waits : ArrayVec ℕ} → w ≡ (take_attempt w again).work → [] ≡ (take_attempt w again).text → waits.items ≡ [] → Turned w w waits
+nothing_read work text none =
+    record {
+      attempt = again;
+      work = work;
+      text = none ∙ text;
+      room = record { short = omega (arith, ap length none) };
     }
 
 -- one more at the end
@@ -43,17 +33,13 @@ unfolding take_attempts
 one_more w [] last = refl
 one_more w (attempt ∷ attempts) last = one_more (take_attempt w attempt).work attempts last
 
-pub once_more : {before now s : State} {line rows line₁ rows₁ out₁ line₂ rows₂ out₂ : List ℕ}
-    → Read before line rows now line₁ rows₁ out₁ → Turned now line₁ rows₁ out₁ s line₂ rows₂ out₂ → Read before line rows s line₂ rows₂ out₂
-once_more {before = before} {line = line} {rows = rows} r t =
+pub once_more : {before now w : Work} {waited waits : ArrayVec ℕ} → Read before now waited → Turned now w waits → Read before w waits
+once_more {before = before} r t =
     record {
       attempts = r.attempts ++ (t.attempt ∷ []);
-      work = rw (one_more (held before line rows) r.attempts t.attempt, ← r.work) t.work;
-      between = t.between;
+      work = rw (one_more before r.attempts t.attempt, ← r.work) t.work;
+      room = t.room;
     }
-
-never : false ≡ true → ⊥
-never h = let z : ◌≡◌ {A = ℕ} 0 1 = cc in omega arith
 
 none : (w : Work) → (w ≡ (take_bytes w []).work) × ([] ≡ (take_bytes w []).text)
 unfolding take_bytes
@@ -64,7 +50,7 @@ taken-as-one : (w : Work) (attempts : List Attempt) → all_went_on attempts ≡
     → (take_attempts w attempts ≡ (take_bytes w (given attempts)).work) × (attempts_text w attempts ≡ (take_bytes w (given attempts)).text)
 unfolding take_attempts take_attempt take_read attempts_text given all_went_on
 taken-as-one w [] h = none w
-taken-as-one w (gave [] ∷ attempts) h = absurd (never h)
+taken-as-one w (gave [] ∷ attempts) h = absurd cc
 taken-as-one w (gave (byte ∷ bytes) ∷ attempts) h =
     let rest = taken-as-one (take_bytes w (byte ∷ bytes)).work attempts h in
     let joint = chunks w (byte ∷ bytes) (given attempts) in (
@@ -72,7 +58,7 @@ taken-as-one w (gave (byte ∷ bytes) ∷ attempts) h =
       ap (λ (text : List ℕ). (take_bytes w (byte ∷ bytes)).text ++ text) rest.1 ∙ sym (ap (λ (s : Step). s.text) joint),
     )
 taken-as-one w (again ∷ attempts) h = taken-as-one w attempts h
-taken-as-one w (failed ∷ attempts) h = absurd (never h)
+taken-as-one w (failed ∷ attempts) h = absurd cc
 
 -- reads of any sizes: the texts of the attempts and of the end are the text of the whole input
 pub reads-of-any-size : (words : List ℕ) (attempts : List Attempt) → all_went_on attempts ≡ true

@@ -2,7 +2,6 @@
 pub mod Steps
 pub mod LineEnds
 pub mod Bytes
-pub mod Ends
 pub mod Example
 pub mod Attempts
 pub mod Streams

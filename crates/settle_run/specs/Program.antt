@@ -1,34 +1,38 @@
 -- The program `settle`: what it holds between two bytes of its input, what each byte changes, and what is printed.
-use Rattle.std.specs.Prelude.{ℕ, ◌+◌, ◌%◌, ◌^◌, Bool, true, false, cond, not, ◌&&◌, List, [], ◌∷◌, ◌++◌, length, replicate, pos, ◌==◌, nat_lt}
+use Rattle.std.specs.Prelude.{ℕ, ◌+◌, ◌%◌, ◌^◌, Bool, true, false, cond, not, ◌&&◌, Option, None, Some, List, [], ◌∷◌, ◌++◌, length, replicate, pos, ◌==◌, nat_lt}
 use Rattle.refusals.specs.Causes.{accepted}
 use Rattle.book.specs.Book.{Book, fresh_book}
-use Rattle.calls.specs.Calls.{Outcome}
+use Rattle.calls.specs.declared.Call.{Call}
+use Rattle.calls.specs.Calls.{Outcome, call_outcome}
 use Rattle.cells.specs.Cells.{units}
 use Rattle.allocation.specs.Allocate.{Allocation, allocate_call}
-use Rattle.period_file.specs.declared.Line.{Line}
-use Rattle.period_file.specs.Lines.{line_most, kind_of, line_after, line_outcome}
+use Rattle.period_file.specs.declared.LineKind.{LineKind}
+use Rattle.period_file.specs.Lines.{line_most, call_kind, line_after}
 use Rattle.report.specs.Lines.{refused_line, bad_line, allocation_text}
+use Rattle.settle_run.specs.declared.Phase.{Phase}
+use Rattle.settle_run.specs.declared.Phase.TheVariants.{Reading, InputEnded, Stopped}
 
--- how far the work is
-abbrev pub reading : ℕ
-reading = 0
+-- how far the work is: at a byte of the input, past its end, or ended by a line out of form
+abbrev pub is_reading : Phase → Bool
+is_reading Reading = true
+is_reading InputEnded = false
+is_reading Stopped = false
 
-abbrev pub input_ended : ℕ
-input_ended = 1
-
-abbrev pub stopped : ℕ
-stopped = 2
+abbrev pub has_ended : Phase → Bool
+has_ended Reading = false
+has_ended InputEnded = true
+has_ended Stopped = false
 
 -- what is held between two bytes: the book, how far the work is, the kind of the last line, the number of the line that is being
 -- gathered, and its bytes so far
 pub record Work : Type 0 where
   pub book : Book
-  pub phase : ℕ
-  pub last_kind : ℕ
+  pub phase : Phase
+  pub last_kind : Option LineKind
   pub number : ℕ
   pub gathered : List ℕ
 
-abbrev pub with_phase : ℕ → Work → Work
+abbrev pub with_phase : Phase → Work → Work
 with_phase phase w =
     record { book = w.book; phase = phase; last_kind = w.last_kind; number = w.number; gathered = w.gathered }
 
@@ -38,7 +42,7 @@ with_gathered gathered w =
 
 -- before the first byte: a fresh book, no line before, and lines "numbered from 1"
 abbrev pub fresh_work : List ℕ → Work
-fresh_work words = record { book = fresh_book words; phase = reading; last_kind = 0; number = 1; gathered = [] }
+fresh_work words = record { book = fresh_book words; phase = Reading; last_kind = None; number = 1; gathered = [] }
 
 -- what is held then, and what is printed on the way
 pub record Step : Type 0 where
@@ -50,19 +54,20 @@ quiet w = record { work = w; text = [] }
 
 -- "A line out of form prints line=its number and ends the program"
 abbrev pub out_of_form : Work → Step
-out_of_form w = record { work = with_phase stopped w; text = bad_line w.number }
+out_of_form w = record { work = with_phase Stopped w; text = bad_line w.number }
 
 -- "A refused call prints refused=line,number and work goes on"; lines are "numbered from 1", in a number of 64 bits
-abbrev pub call_made : Work → ℕ → Outcome → Step
+abbrev pub call_made : Work → LineKind → Outcome → Step
 call_made w kind o =
     record {
-      work = record { book = o.book; phase = w.phase; last_kind = kind; number = (w.number + 1) % 2 ^ 64; gathered = [] };
+      work = record { book = o.book; phase = w.phase; last_kind = Some kind; number = (w.number + 1) % 2 ^ 64; gathered = [] };
       text = cond (o.number == accepted) [] (refused_line w.number o.number);
     }
 
 -- a line, "and makes the call of each"
-abbrev pub line_taken : Work → Line → Step
-line_taken w line = cond (kind_of line == 0) (out_of_form w) (call_made w (kind_of line) (line_outcome w.book line))
+abbrev pub line_taken : Work → Option Call → Step
+line_taken w None = out_of_form w
+line_taken w (Some call) = call_made w (call_kind call) (call_outcome w.book call)
 
 -- the end of a line
 unfoldable pub end_line : Work → Step
@@ -79,7 +84,7 @@ gather w byte =
 -- one byte; after the end of the program no byte changes anything
 unfoldable pub take_byte : Work → ℕ → Step
 take_byte w byte =
-    cond (w.phase == reading) (cond (byte == line_feed_byte) (end_line w) (gather w byte)) (quiet w)
+    cond (is_reading w.phase) (cond (byte == line_feed_byte) (end_line w) (gather w byte)) (quiet w)
 
 -- the bytes one after the other
 abbrev pub after : List ℕ → Step → Step
@@ -91,7 +96,7 @@ take_bytes w (byte ∷ bytes) = after (take_byte w byte).text (take_bytes (take_
 
 -- "reads [..] from standard input": the bytes that one read gives; a read that gives none is the end of the input
 unfoldable pub take_read : Work → List ℕ → Step
-take_read w [] = quiet (with_phase input_ended w)
+take_read w [] = quiet (with_phase InputEnded w)
 take_read w (byte ∷ bytes) = take_bytes w (byte ∷ bytes)
 
 -- what comes of one attempt to read: bytes, an attempt that has to be made again, or a failure, which ends the program
@@ -103,7 +108,7 @@ pub data Attempt : Type 0 where
 unfoldable pub take_attempt : Work → Attempt → Step
 take_attempt w (gave bytes) = take_read w bytes
 take_attempt w again = quiet w
-take_attempt w failed = quiet (with_phase stopped w)
+take_attempt w failed = quiet (with_phase Stopped w)
 
 unfoldable pub take_attempts : Work → List Attempt → Work
 take_attempts w [] = w
@@ -111,14 +116,14 @@ take_attempts w (attempt ∷ attempts) = take_attempts (take_attempt w attempt).
 
 -- "The last line's end may be missing"
 unfoldable pub end_input : Work → Step
-end_input w = cond (w.phase == input_ended && not (length w.gathered == 0)) (end_line w) (quiet w)
+end_input w = cond (has_ended w.phase && not (length w.gathered == 0)) (end_line w) (quiet w)
 
 -- "Then it allocates", unless a line out of form ended the program
 abbrev pub outcome_text : Allocation → List ℕ
 outcome_text o = allocation_text o.answer o.volumes
 
 unfoldable pub closing_text : Work → List ℕ
-closing_text w = cond (w.phase == input_ended) (outcome_text (allocate_call w.book (replicate units (pos 0)))) []
+closing_text w = cond (has_ended w.phase) (outcome_text (allocate_call w.book (replicate units (pos 0)))) []
 
 -- what is printed once the input has ended
 unfoldable pub end_text : Work → List ℕ
@@ -126,7 +131,7 @@ end_text w = (end_input w).text ++ closing_text (end_input w).work
 
 -- the whole: what is printed for an input, whose end a read of no byte tells unless a line out of form came before it
 abbrev pub ended : Work → Work
-ended w = cond (w.phase == reading) (take_read w []).work w
+ended w = cond (is_reading w.phase) (take_read w []).work w
 
 unfoldable pub settle_text : List ℕ → List ℕ → List ℕ
 settle_text words input =

@@ -1,139 +1,180 @@
 // Lines gathered from the bytes that reads give, whatever the sizes of the reads, and what is printed of them.
-ghost use Rattle.std.specs.Prelude.{◌+◌, ◌*◌, ◌≤◌, length, take};
-ghost use Rattle.report.specs.Helpers.{Printed};
-ghost use Rattle.settle_run.specs.Program.{end_line, take_byte, take_bytes, take_read, end_input, end_text};
-ghost use Rattle.settle_run.specs.Helpers.{held, Ready, Took, Stopped, Closed};
+ghost use Rattle.std.specs.Prelude.{◌≡◌, ◌+◌, ◌*◌, ◌≤◌, length, replicate};
+ghost use Rattle.arrayvec.specs.ArrayVec.{array_vec_len, Extends};
+ghost use Rattle.settle_run.specs.declared.TheConstants.{OUT_BYTES};
+ghost use Rattle.settle_run.specs.Program.{is_reading, has_ended, fresh_work, out_of_form, end_line, take_byte, take_bytes, take_read, end_input, closing_text, end_text};
+ghost use Rattle.settle_run.specs.Helpers.{Took};
 
-use crate::State;
+use crate::{Phase, ROW_WORDS, Waiting};
 use allocation::allocate::allocate;
+use arrayvec::ArrayVec;
+use book::Settings;
+use period_file::LineKind;
 use period_file::answer::answer_line;
-use refusals::ACCEPTED;
+use period_file::lines::LINE_MAX;
 use report::lines::{put_allocation, put_bad_line, put_refused};
+use std::marker::Model;
 
 const LINE_FEED: u8 = b'\n';
 
-// The state after a line out of form: its number is printed, and the program ends.
-fn out_of_form(state: State, out: &mut [u8]) -> State
-    requires { state.used + 50 ≤ length out.old }
-    ensures { Stopped state out.old result out.new }
-{
-    let mut next = state;
-    next.used = put_bad_line(out, state.used, state.line);
-    next.phase = crate::STOPPED;
-    next
+// What is held between two bytes of the input.
+#[derive(Drop)]
+pub struct Progress {
+    settings: Settings,
+    rows: [u64; ROW_WORDS],
+    phase: Phase,
+    // The kind of the last line, if there was one.
+    last_kind: Option<LineKind>,
+    // The number of the line that is being gathered, and its bytes so far.
+    number: u64,
+    gathered: ArrayVec<u8, LINE_MAX>,
 }
 
-// The end of a line: its call is made, and a refusal printed.
-fn end_line(state: State, line: &[u8], rows: &mut [u64], out: &mut [u8]) -> State
-    requires { Ready 50 state line.now out.old }
-    ensures { Took (end_line (held state line.now rows.old)) 50 out.old state.used result line.now rows.new out.new }
-{
-    let length = state.length;
-    let taken = answer_line(state.settings, state.last_kind, rows, &line[0..length]);
-    if taken.kind == 0 {
-        return out_of_form(state, out);
-    }
-    let answer = taken.answer;
-    let settings = answer.settings;
-    let mut next = state;
-    next.settings = settings;
-    next.last_kind = taken.kind;
-    next.length = 0;
-    next.line = std::num::wrapping_add_u64(state.line, 1);
-    if answer.number != ACCEPTED {
-        next.used = put_refused(out, state.used, state.line, answer.number);
-    }
-    next
+impl Model for Progress {
+    ghost use Rattle.book.specs.Book.{lent};
+    ghost use Rattle.settle_run.specs.Program.{Work};
+
+    ghost Value = { Work };
+
+    ghost view = { λ p. record {
+      book = lent p.settings p.rows;
+      phase = p.phase;
+      last_kind = p.last_kind;
+      number = p.number;
+      gathered = p.gathered.items;
+    } };
 }
 
-// One byte of the input; after a line out of form none changes anything.
-fn take_byte(state: State, byte: u8, line: &mut [u8], rows: &mut [u64], out: &mut [u8]) -> State
-    requires { Ready 50 state line.old out.old }
-    ensures { Took (take_byte (held state line.old rows.old) byte) 50 out.old state.used result line.new rows.new out.new }
-{
-    if state.phase != crate::READING {
-        return state;
+impl Progress {
+    // Before the first byte.
+    // Kept: named as the constructor of the settings is, and no `Default`: the first line is 1, and a derive would give 0.
+    pub fn fresh() -> Progress
+        ensures { result ≡ fresh_work (replicate ROW_WORDS 0) }
+    {
+        Progress {
+            settings: Settings::fresh(),
+            rows: [0; ROW_WORDS],
+            phase: Phase::Reading,
+            last_kind: None,
+            number: 1,
+            gathered: ArrayVec::new(),
+        }
     }
-    if byte == LINE_FEED {
-        return end_line(state, line, rows, out);
-    }
-    let n = state.length;
-    if line.len() <= n {
-        return out_of_form(state, out);
-    }
-    line[n] = byte;
-    let mut next = state;
-    next.length = n + 1;
-    next
-}
 
-// Takes all bytes of a chunk.
-fn feed(state: State, chunk: &[u8], line: &mut [u8], rows: &mut [u64], out: &mut [u8]) -> State
-    requires { Ready (50 * length chunk.now) state line.old out.old }
-    ensures { Took (take_bytes (held state line.old rows.old) chunk.now) (50 * length chunk.now) out.old state.used result line.new rows.new out.new }
-{
-    let mut now = state;
-    let mut at = 0;
-    while at < chunk.len() {
-        now = take_byte(now, chunk[at], line, rows, out);
-        at += 1;
+    pub fn is_reading(&self) -> bool
+        ensures { result ≡ is_reading self.now.phase }
+    {
+        self.phase == Phase::Reading
     }
-    now
-}
 
-// What one read gave: the first n bytes of the chunk; none are the end of the input.
-pub fn take_read(
-    state: State,
-    chunk: &[u8],
-    n: usize,
-    line: &mut [u8],
-    rows: &mut [u64],
-    out: &mut [u8],
-) -> State
-    requires n_in_bounds { n ≤ length chunk.now }
-    requires ready { Ready (50 * n) state line.old out.old }
-    ensures { Took (take_read (held state line.old rows.old) (take n chunk.now)) (50 * n) out.old state.used result line.new rows.new out.new }
-{
-    if n == 0 {
-        let mut next = state;
-        next.phase = crate::INPUT_ENDED;
-        return next;
+    fn has_ended(&self) -> bool
+        ensures { result ≡ has_ended self.now.phase }
+    {
+        self.phase == Phase::InputEnded
     }
-    feed(state, &chunk[0..n], line, rows, out)
-}
 
-// The end of the input: the last line's end may be missing.
-fn end_input(state: State, line: &[u8], rows: &mut [u64], out: &mut [u8]) -> State
-    requires { Ready 50 state line.now out.old }
-    ensures { Took (end_input (held state line.now rows.old)) 50 out.old state.used result line.now rows.new out.new }
-{
-    if state.phase != crate::INPUT_ENDED {
-        return state;
+    // A line out of form: its number is printed, and the program ends.
+    fn stop(&mut self, out: &mut Waiting)
+        requires { array_vec_len out.old + 50 ≤ OUT_BYTES }
+        ensures { Took (out_of_form self.old) 50 out.old self.new out.new }
+    {
+        put_bad_line(out, self.number);
+        self.phase = Phase::Stopped;
     }
-    if state.length == 0 {
-        return state;
-    }
-    end_line(state, line, rows, out)
-}
 
-// Allocates, where the whole input was in form, and prints the outcome.
-fn print_allocation(state: State, rows: &[u64], out: &mut [u8]) -> usize
-    requires { state.used + 2048 ≤ length out.old }
-    ensures { Closed state rows.now out.old out.new result }
-{
-    if state.phase != crate::INPUT_ENDED {
-        return state.used;
+    // The end of a line: its call is made, and a refusal printed.
+    fn end_line(&mut self, out: &mut Waiting)
+        requires { array_vec_len out.old + 50 ≤ OUT_BYTES }
+        ensures { Took (end_line self.old) 50 out.old self.new out.new }
+    {
+        let line = self.gathered.as_slice();
+        let Some(taken) = answer_line(self.settings, self.last_kind, &mut self.rows, line) else {
+            return self.stop(out);
+        };
+        let number = self.number;
+        self.number = number.wrapping_add(1);
+        self.last_kind = Some(taken.kind);
+        self.gathered.clear();
+        match taken.outcome {
+            Ok(settings) => self.settings = settings,
+            Err(refusal) => put_refused(out, number, u64::from(refusal)),
+        }
     }
-    let mut volumes = [0i64; 32];
-    let made = allocate(state.settings, rows, &mut volumes);
-    put_allocation(out, state.used, made.answer, &volumes)
-}
 
-// What is printed once the input has ended.
-pub fn finish(state: State, line: &[u8], rows: &mut [u64], out: &mut [u8]) -> usize
-    requires { Ready 2098 state line.now out.old }
-    ensures { Printed 2098 out.old state.used (end_text (held state line.now rows.old)) out.new result }
-{
-    let last = end_input(state, line, rows, out);
-    print_allocation(last, rows, out)
+    // One byte of the input; after a line out of form none changes anything.
+    #[tactic(auto, unfolding(crate::specs::Program::take_byte))]
+    fn take_byte(&mut self, byte: u8, out: &mut Waiting)
+        requires { array_vec_len out.old + 50 ≤ OUT_BYTES }
+        ensures { Took (take_byte self.old byte) 50 out.old self.new out.new }
+    {
+        if !self.is_reading() {
+            return;
+        }
+        if byte == LINE_FEED {
+            return self.end_line(out);
+        }
+        if self.gathered.is_full() {
+            return self.stop(out);
+        }
+        self.gathered.push(byte);
+    }
+
+    // Takes all of the bytes.
+    #[tactic(auto, unfolding(crate::specs::Program::take_bytes))]
+    fn feed(&mut self, bytes: &[u8], out: &mut Waiting)
+        requires { array_vec_len out.old + 50 * length bytes.now ≤ OUT_BYTES }
+        ensures { Took (take_bytes self.old bytes.now) (50 * length bytes.now) out.old self.new out.new }
+    {
+        for byte in bytes {
+            self.take_byte(*byte, out);
+        }
+    }
+
+    // What one read gave; no bytes are the end of the input.
+    #[tactic(auto, unfolding(crate::specs::Program::take_read))]
+    pub fn take_read(&mut self, bytes: &[u8], out: &mut Waiting)
+        requires { array_vec_len out.old + 50 * length bytes.now ≤ OUT_BYTES }
+        ensures { Took (take_read self.old bytes.now) (50 * length bytes.now) out.old self.new out.new }
+    {
+        if bytes.is_empty() {
+            self.phase = Phase::InputEnded;
+        } else {
+            self.feed(bytes, out);
+        }
+    }
+
+    // The end of the input: the last line's end may be missing.
+    #[tactic(auto, unfolding(crate::specs::Program::end_input))]
+    fn end_input(&mut self, out: &mut Waiting)
+        requires { array_vec_len out.old + 50 ≤ OUT_BYTES }
+        ensures { Took (end_input self.old) 50 out.old self.new out.new }
+    {
+        if self.has_ended() && !self.gathered.is_empty() {
+            self.end_line(out);
+        }
+    }
+
+    // Allocates, where the whole input was in form, and prints the outcome.
+    #[tactic(auto, unfolding(crate::specs::Program::closing_text))]
+    fn print_allocation(&self, out: &mut Waiting)
+        requires { array_vec_len out.old + 2048 ≤ OUT_BYTES }
+        ensures text { Extends out.old (closing_text self.now) out.new }
+        ensures short { array_vec_len out.new ≤ array_vec_len out.old + 2048 }
+    {
+        if self.has_ended() {
+            let mut volumes = [0i64; 32];
+            let made = allocate(self.settings, &self.rows, &mut volumes);
+            put_allocation(out, made.answer, &volumes);
+        }
+    }
+
+    // Prints what comes once the input has ended.
+    #[tactic(auto, unfolding(crate::specs::Program::end_text))]
+    pub fn finish(&mut self, out: &mut Waiting)
+        requires { array_vec_len out.old + 2098 ≤ OUT_BYTES }
+        ensures { Extends out.old (end_text self.old) out.new }
+    {
+        self.end_input(out);
+        self.print_allocation(out);
+    }
 }

@@ -1,15 +1,19 @@
-// Output that was gathered in a lent buffer: `used` bytes at its start wait to be written.
-ghost use Rattle.std.specs.Prelude.{◌≡◌, ◌≤◌, ◌↔◌, IsTrue, IfOk, OnOk, IfErr, OnErr, length, take, slice_range};
+// Output of the text that waits.
+ghost use Rattle.std.specs.Prelude.{◌≡◌, ◌≤◌, ◌↔◌, [], IsTrue, IfOk, OnOk, IfErr, OnErr, length, take};
 ghost use Rattle.std.specs.IoError.{error_kind};
 ghost use Rattle.std.specs.Io.KnownBytes.{Appends, Keeps};
 ghost use Rattle.settle_run.specs.Streams.{AppendsSome, Passes};
 
+use crate::Waiting;
 use std::io::{ErrorKind, Write};
 use std::time::{Clock, Duration};
 use std::{io, thread};
 
 // How long a pipe that does not wait is given to take or to give bytes, before the next try.
 const PAUSE_MILLIS: u64 = 1;
+
+// The turns of a loop that waits for a pipe: so many that no run uses them up.
+pub const TURNS: u64 = u64::MAX;
 
 // Whether a call that failed may be made again: a signal came, or a pipe that does not wait is full or empty for now.
 pub fn will_pass(clock: &impl Clock, error: io::Error) -> bool
@@ -32,29 +36,18 @@ pub fn out_of_turns() -> io::Error
     io::Error::new(ErrorKind::TimedOut, "gave up after 2^64 turns")
 }
 
-// One write of the bytes from `from` on: how many of all are written then.
-fn write_from<W: Write>(
-    clock: &impl Clock,
-    writer: &mut W,
-    bytes: &[u8],
-    from: usize,
-) -> io::Result<usize>
-    requires { from ≤ length bytes.now }
+// One write of some of the bytes: how many are written.
+// Kept: std's `write_all` says nothing of what was written where it fails, and gives up at a pipe that is full for now.
+fn write_some<W: Write>(clock: &impl Clock, writer: &mut W, bytes: &[u8]) -> io::Result<usize>
     ensures bound { IfOk result (λ n. n ≤ length bytes.now) }
-    ensures forward { IfOk result (λ n. from ≤ n) }
-    ensures written { IfOk result (λ n. Appends (W.contents writer.old) (W.contents writer.new) (slice_range bytes.now from n)) }
+    ensures written { IfOk result (λ n. Appends (W.contents writer.old) (W.contents writer.new) (take n bytes.now)) }
     ensures lasting { IfErr result (λ e. ¬ Passes e) }
     ensures err { OnErr result (Keeps (W.contents writer.old) (W.contents writer.new)) }
 {
-    match writer.write(&bytes[from..]) {
-        Ok(n) => Ok(from + n),
-        Err(e) => {
-            if will_pass(clock, e) {
-                Ok(from)
-            } else {
-                Err(e)
-            }
-        }
+    match writer.write(bytes) {
+        Ok(n) => Ok(n),
+        Err(e) if will_pass(clock, e) => Ok(0),
+        Err(e) => Err(e),
     }
 }
 
@@ -64,12 +57,14 @@ fn write_out<W: Write>(clock: &impl Clock, writer: &mut W, bytes: &[u8]) -> io::
     ensures lasting { IfErr result (λ e. ¬ Passes e) }
     ensures err { OnErr result (AppendsSome (W.contents writer.old) (W.contents writer.new) bytes.now) }
 {
-    let mut done = 0;
-    for _ in 0..u64::MAX {
-        if bytes.len() <= done {
+    let mut left = bytes;
+    // Kept: a loop that may not end asks for a handle, and the project allows none: this counts turns that no run uses up.
+    for _ in 0..TURNS {
+        if left.is_empty() {
             return Ok(());
         }
-        done = write_from(clock, writer, bytes, done)?;
+        let n = write_some(clock, writer, left)?;
+        left = &left[n..];
     }
     Err(out_of_turns())
 }
@@ -79,7 +74,8 @@ fn pass_on<W: Write>(clock: &impl Clock, writer: &mut W) -> io::Result<()>
     ensures lasting { IfErr result (λ e. ¬ Passes e) }
     ensures kept { Keeps (W.contents writer.old) (W.contents writer.new) }
 {
-    for _ in 0..u64::MAX {
+    // Kept: a loop that may not end asks for a handle, and the project allows none: this counts turns that no run uses up.
+    for _ in 0..TURNS {
         let Err(e) = writer.flush() else {
             return Ok(());
         };
@@ -90,19 +86,18 @@ fn pass_on<W: Write>(clock: &impl Clock, writer: &mut W) -> io::Result<()>
     Err(out_of_turns())
 }
 
-// Writes the bytes that wait.
-pub fn flush<W: Write>(
-    clock: &impl Clock,
-    writer: &mut W,
-    out: &[u8],
-    used: usize,
-) -> io::Result<()>
-    ensures ok { OnOk result (used ≤ length out.now → Appends (W.contents writer.old) (W.contents writer.new) (take used out.now)) }
+// Writes the text that waits, after which none does. Where it fails, the text still waits.
+// Kept: clock, writer and text are lent one by one: a read waits by the clock too, and what gathers text has no writer, so that a struct
+// of them would be taken apart again in `turn` and `run`.
+pub fn flush<W: Write>(clock: &impl Clock, writer: &mut W, out: &mut Waiting) -> io::Result<()>
+    ensures ok { OnOk result (Appends (W.contents writer.old) (W.contents writer.new) out.old.items) }
+    ensures empty { OnOk result (out.new.items ≡ []) }
     ensures lasting { IfErr result (λ e. ¬ Passes e) }
-    ensures err { OnErr result (AppendsSome (W.contents writer.old) (W.contents writer.new) (take used out.now)) }
+    ensures err { OnErr result (AppendsSome (W.contents writer.old) (W.contents writer.new) out.old.items) }
+    ensures waiting { OnErr result (out.new ≡ out.old) }
 {
-    if used <= out.len() {
-        write_out(clock, writer, &out[..used])?;
-    }
-    pass_on(clock, writer)
+    write_out(clock, writer, out.as_slice())?;
+    pass_on(clock, writer)?;
+    out.clear();
+    Ok(())
 }

@@ -1,4 +1,6 @@
-// The entry points for C: the same functions under one prefix, with the same contracts. A slice is a pointer and a length.
+// The entry points for C: the same functions under one prefix, which promise the same. Where one of them gives a Result, C gets an
+// `Answer` of it, and hands over a call's arguments one by one. A slice is a pointer and a length.
+// Kept: these functions stand apart, since C knows each by its name.
 ghost use Rattle.std.specs.Prelude.{◌≡◌};
 ghost use Rattle.book.specs.declared.Setting.TheVariants.{Shape, Weight, Tolerance, GroupTake};
 ghost use Rattle.book.specs.Settings.{fresh_settings};
@@ -32,7 +34,8 @@ pub extern "C" fn cepnhoy_register(
 ) -> Answer
     ensures { Gives (call_outcome (lent settings rows.old) (Register mpan registration)) result rows.new }
 {
-    make_call(settings, rows, Call::Register { mpan, registration })
+    let outcome = make_call(settings, rows, Call::Register { mpan, registration });
+    Answer::of(settings, outcome)
 }
 
 #[unsafe(no_mangle)]
@@ -44,7 +47,8 @@ pub extern "C" fn cepnhoy_record_reading(
 ) -> Answer
     ensures { Gives (call_outcome (lent settings rows.old) (Record mpan reading)) result rows.new }
 {
-    make_call(settings, rows, Call::Record { mpan, reading })
+    let outcome = make_call(settings, rows, Call::Record { mpan, reading });
+    Answer::of(settings, outcome)
 }
 
 #[unsafe(no_mangle)]
@@ -56,7 +60,10 @@ pub extern "C" fn cepnhoy_set_shape(
 ) -> Answer
     ensures { Gives (call_outcome (lent settings rows.now) (Set (Shape category wh))) result rows.now }
 {
-    set(settings, rows, Setting::Shape { category, wh })
+    Answer::of(
+        settings,
+        set(settings, rows, Setting::Shape { category, wh }),
+    )
 }
 
 #[unsafe(no_mangle)]
@@ -68,21 +75,24 @@ pub extern "C" fn cepnhoy_set_weight(
 ) -> Answer
     ensures { Gives (call_outcome (lent settings rows.now) (Set (Weight class thousandths))) result rows.now }
 {
-    set(settings, rows, Setting::Weight { class, thousandths })
+    Answer::of(
+        settings,
+        set(settings, rows, Setting::Weight { class, thousandths }),
+    )
 }
 
 #[unsafe(no_mangle)]
 pub extern "C" fn cepnhoy_set_tolerance(settings: Settings, rows: &[u64], g: u64) -> Answer
     ensures { Gives (call_outcome (lent settings rows.now) (Set (Tolerance g))) result rows.now }
 {
-    set(settings, rows, Setting::Tolerance(g))
+    Answer::of(settings, set(settings, rows, Setting::Tolerance(g)))
 }
 
 #[unsafe(no_mangle)]
 pub extern "C" fn cepnhoy_set_take(settings: Settings, rows: &[u64], wh: i64) -> Answer
     ensures { Gives (call_outcome (lent settings rows.now) (Set (GroupTake wh))) result rows.now }
 {
-    set(settings, rows, Setting::GroupTake(wh))
+    Answer::of(settings, set(settings, rows, Setting::GroupTake(wh)))
 }
 
 #[unsafe(no_mangle)]
@@ -118,7 +128,8 @@ pub extern "C" fn cepnhoy_make_calls(
 ) -> Answer
     ensures { ListGives (list_call (lent settings rows.old) calls.now numbers.old) result rows.new numbers.new }
 {
-    listing::list::make_calls(settings, rows, calls, numbers)
+    let outcome = listing::list::make_calls(settings, rows, calls, numbers);
+    Answer::of(settings, outcome)
 }
 
 #[unsafe(no_mangle)]

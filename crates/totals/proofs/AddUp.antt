@@ -17,7 +17,9 @@ use Rattle.book.specs.Limits.{classes}
 use Rattle.book.specs.Rows.{Row}
 use Rattle.book.specs.Book.{Book, used_rows, well_formed}
 use Rattle.book.proofs.WellFormed.{formed-book, formed-settings}
-use Rattle.cells.specs.Energy.{Source, actual_reading, estimated_reading, shape_default, no_energy, source_of, energy_from, energy_wh, energised, de_energised, Counts, count_for, counts_of, add_counts}
+use Rattle.cells.specs.declared.Source.{Source}
+use Rattle.cells.specs.declared.Source.TheVariants.{Actual, Estimated, Defaulted, Idle}
+use Rattle.cells.specs.Energy.{source_of, energy_from, energy_wh, energised, de_energised, Counts, count_for, counts_of, add_counts}
 use Rattle.cells.specs.Cells.{units, sum_over, sum_below, is_loss_class, energy_in, in_cell, consumption_class, consumption_cell, loss_cell, cell}
 use Rattle.cells.proofs.Each.{Each}
 use Rattle.cells.proofs.RowBounds.{RowBounds, rows-bounds, class-even, class-direction}
@@ -83,10 +85,10 @@ unfolding energy_wh actual_from other_from energy_from
 all-energy shapes registration reading = by (source_of registration reading)
   where
     by : (x : Source) → actual_from x (energy_from shapes registration reading x) + other_from x (energy_from shapes registration reading x) ≡ energy_from shapes registration reading x
-    by actual_reading = omega arith
-    by estimated_reading = omega arith
-    by shape_default = omega arith
-    by no_energy = omega arith
+    by Actual = omega arith
+    by Estimated = omega arith
+    by Defaulted = omega arith
+    by Idle = omega arith
 
 sum-over-zeros : (meters : List Row) → sum_over (λ registration reading. pos 0) meters ≡ pos 0
 sum-over-zeros meters = sym (sum-over-through (λ registration reading. pos 0) (λ z. pos 0) refl (λ a b. refl) meters)
@@ -185,17 +187,17 @@ module _ (shapes : List ℕ) (direction : ℕ) where
 -- the counts of one meter, by whether it is idle
 idle-counts : (x : Source) → is_idle x ≡ true → 0 ≡ not_idle (count_for x)
 unfolding is_idle count_for
-idle-counts actual_reading h = absurd (true≢false (sym h))
-idle-counts estimated_reading h = absurd (true≢false (sym h))
-idle-counts shape_default h = absurd (true≢false (sym h))
-idle-counts no_energy h = refl
+idle-counts Actual h = absurd (true≢false (sym h))
+idle-counts Estimated h = absurd (true≢false (sym h))
+idle-counts Defaulted h = absurd (true≢false (sym h))
+idle-counts Idle h = refl
 
 used-counts : (x : Source) → is_idle x ≡ false → 1 ≡ not_idle (count_for x)
 unfolding is_idle count_for
-used-counts actual_reading h = refl
-used-counts estimated_reading h = refl
-used-counts shape_default h = refl
-used-counts no_energy h = absurd (true≢false h)
+used-counts Actual h = refl
+used-counts Estimated h = refl
+used-counts Defaulted h = refl
+used-counts Idle h = absurd (true≢false h)
 
 -- a meter that is not idle has one of two statuses, and counts once
 counted-one : (registration reading : ℕ) → one_of energised registration reading + one_of de_energised registration reading ≡ not_idle (count_for (source_of registration reading))

@@ -12,9 +12,13 @@ use Rattle.words.specs.Registration.{direction_of, status_of, network_of, tariff
 use Rattle.words.proofs.Tests.{by-test, same_test}
 use Rattle.book.specs.Rows.{Row}
 use Rattle.cells.specs.declared.Use.{Use}
-use Rattle.cells.specs.Energy.{Source, actual_reading, estimated_reading, shape_default, no_energy, source_of, energy_wh, energised, de_energised}
-use Rattle.cells.specs.Helpers.{source_number, estimate_of, use_of}
-use Rattle.cells.proofs.OneMore.{estimate-few}
+use Rattle.cells.specs.declared.Source.{Source}
+use Rattle.cells.specs.declared.Source.TheVariants.{Actual, Estimated, Defaulted, Idle}
+use Rattle.cells.specs.Energy.{source_of, energy_wh, energised, de_energised}
+use Rattle.cells.specs.Cells.{estimate_bit}
+use Rattle.cells.specs.Helpers.{use_of, wh_of}
+use Rattle.cells.proofs.Uses.{use-wh}
+use Rattle.cells.proofs.RowBounds.{estimate-most}
 use Rattle.totals.specs.Totals.{tariffs, totals_words, is_charged, actual_from, other_from, is_idle, one_of, totals_of}
 use Rattle.totals.specs.Helpers.{increased, count_word, with_meter}
 use Rattle.totals.proofs.SumWhere.{sum-where-last}
@@ -50,6 +54,9 @@ count-word-bound registration = by (eqb (status_of registration) energised)
     by true = omega arith
     by false = omega arith
 
+-- how small these numbers are, for the check to cite
+pub ruleset few = (estimate-most, count-word-bound)
+
 -- what a meter gives to the words of its tariff
 
 -- a meter that is not idle is energised or de-energised
@@ -62,26 +69,19 @@ used-status registration reading h =
     (λ t. rw (off, t))
     (λ t. absurd (true≢false (rw (off, t) at h))))
 
-idle-number : (s : Source) → eqb (source_number s) 3 ≡ is_idle s
-unfolding is_idle
-idle-number actual_reading = refl
-idle-number estimated_reading = refl
-idle-number shape_default = refl
-idle-number no_energy = refl
-
 idle-energy : (s : Source) (wh : ℕ) → is_idle s ≡ true → (actual_from s wh ≡ 0) × (other_from s wh ≡ 0)
 unfolding is_idle actual_from other_from
-idle-energy actual_reading wh h = absurd (true≢false (sym h))
-idle-energy estimated_reading wh h = absurd (true≢false (sym h))
-idle-energy shape_default wh h = absurd (true≢false (sym h))
-idle-energy no_energy wh h = (refl, refl)
+idle-energy Actual wh h = absurd (true≢false (sym h))
+idle-energy Estimated wh h = absurd (true≢false (sym h))
+idle-energy Defaulted wh h = absurd (true≢false (sym h))
+idle-energy Idle wh h = (refl, refl)
 
-used-energy : (s : Source) (wh : ℕ) → is_idle s ≡ false → (actual_from s wh ≡ cond (eqb (estimate_of (source_number s)) 0) wh 0) × (other_from s wh ≡ cond (eqb (estimate_of (source_number s)) 1) wh 0)
-unfolding is_idle actual_from other_from
-used-energy actual_reading wh h = (refl, refl)
-used-energy estimated_reading wh h = (refl, refl)
-used-energy shape_default wh h = (refl, refl)
-used-energy no_energy wh h = absurd (true≢false h)
+used-energy : (s : Source) (wh : ℕ) → is_idle s ≡ false → (actual_from s wh ≡ cond (eqb (estimate_bit s) 0) wh 0) × (other_from s wh ≡ cond (eqb (estimate_bit s) 1) wh 0)
+unfolding is_idle actual_from other_from estimate_bit
+used-energy Actual wh h = (refl, refl)
+used-energy Estimated wh h = (refl, refl)
+used-energy Defaulted wh h = (refl, refl)
+used-energy Idle wh h = absurd (true≢false h)
 
 module _ (shapes : List ℕ) (registration reading : ℕ) where
   abbrev source : Source
@@ -91,7 +91,7 @@ module _ (shapes : List ℕ) (registration reading : ℕ) where
   wh = energy_wh shapes registration reading
 
   abbrev energy_at : ℕ
-  energy_at = estimate_of (source_number source)
+  energy_at = estimate_bit source
 
   idle-gives : is_idle source ≡ true → (k : ℕ) → word_gives shapes k registration reading ≡ 0
   unfolding one_of
@@ -104,12 +104,12 @@ module _ (shapes : List ℕ) (registration reading : ℕ) where
   unfolding one_of
   used-gives h zero l = rw (ne_eqb (count_word registration) 0 (λ e. omega (arith, count-word-bound registration))) (omega (arith, (used-energy source wh h).0))
   used-gives h (suc zero) l = rw (ne_eqb (count_word registration) 1 (λ e. omega (arith, count-word-bound registration))) (omega (arith, (used-energy source wh h).1))
-  used-gives h (suc (suc zero)) l = rw (ne_eqb energy_at 2 (λ e. omega (arith, estimate-few (source_number source))), h) (by (eqb (status_of registration) energised))
+  used-gives h (suc (suc zero)) l = rw (ne_eqb energy_at 2 (λ e. omega (arith, estimate-most source)), h) (by (eqb (status_of registration) energised))
     where
       by : (t : Bool) → ◌≡◌ {A = ℕ} (cond t 1 0) (0 + cond (eqb (cond t 2 3) 2) 1 0)
       by true = refl
       by false = refl
-  used-gives h (suc (suc (suc zero))) l = rw (ne_eqb energy_at 3 (λ e. omega (arith, estimate-few (source_number source))), h, used-status registration reading h) (by (eqb (status_of registration) energised))
+  used-gives h (suc (suc (suc zero))) l = rw (ne_eqb energy_at 3 (λ e. omega (arith, estimate-most source)), h, used-status registration reading h) (by (eqb (status_of registration) energised))
     where
       by : (t : Bool) → ◌≡◌ {A = ℕ} (cond (not t) 1 0) (0 + cond (eqb (cond t 2 3) 3) 1 0)
       by true = refl
@@ -155,40 +155,41 @@ module _ (shapes : List ℕ) (meters : List Row) (r : Row) (direction network : 
       by false = refl
 
   abbrev energy_place : ℕ
-  energy_place = 4 * tariff_of r.registration + estimate_of used.source
+  energy_place = 4 * tariff_of r.registration + estimate_bit used.source
 
   abbrev count_place : ℕ
   count_place = 4 * tariff_of r.registration + count_word r.registration
 
   -- what a meter gives to any word, by the two places that it is added at
   gives_at : asked ≡ true → is_idle (source_of r.registration r.reading) ≡ false → (t k : ℕ) → k < 4
-      → cond (asked && eqb (tariff_of r.registration) t) (word_gives shapes k r.registration r.reading) 0 ≡ cond (eqb energy_place (4 * t + k)) used.wh 0 + cond (eqb count_place (4 * t + k)) 1 0
+      → cond (asked && eqb (tariff_of r.registration) t) (word_gives shapes k r.registration r.reading) 0 ≡ cond (eqb energy_place (4 * t + k)) (wh_of used) 0 + cond (eqb count_place (4 * t + k)) 1 0
   gives_at same busy t k l =
       rw (
         same,
-        same_word (tariff_of r.registration) (estimate_of used.source) t k (omega (arith, estimate-few used.source)) l,
+        use-wh shapes r.registration r.reading,
+        same_word (tariff_of r.registration) (estimate_bit used.source) t k (omega (arith, estimate-most used.source)) l,
         same_word (tariff_of r.registration) (count_word r.registration) t k (count-word-bound r.registration).1 l,
       )
       (by (eqb (tariff_of r.registration) t) (used-gives shapes r.registration r.reading busy k l))
     where
-      by : (s : Bool) {g : ℕ} → g ≡ cond (eqb (estimate_of used.source) k) used.wh 0 + cond (eqb (count_word r.registration) k) 1 0
-          → cond s g 0 ≡ cond (s && eqb (estimate_of used.source) k) used.wh 0 + cond (s && eqb (count_word r.registration) k) 1 0
+      by : (s : Bool) {g : ℕ} → g ≡ cond (eqb (estimate_bit used.source) k) (energy_wh shapes r.registration r.reading) 0 + cond (eqb (count_word r.registration) k) 1 0
+          → cond s g 0 ≡ cond (s && eqb (estimate_bit used.source) k) (energy_wh shapes r.registration r.reading) 0 + cond (s && eqb (count_word r.registration) k) 1 0
       by true e = e
       by false e = refl
 
-  used-added : asked ≡ true → is_idle (source_of r.registration r.reading) ≡ false → increased (increased before energy_place used.wh) count_place 1 ≡ after
+  used-added : asked ≡ true → is_idle (source_of r.registration r.reading) ≡ false → increased (increased before energy_place (wh_of used)) count_place 1 ≡ after
   used-added same busy =
       let long = totals-length shapes meters direction network 0 tariffs in
-      let first : energy_place < length before = omega (arith, long, estimate-few used.source) in
-      let long-still : length (increased before energy_place used.wh) ≡ totals_words = length-set before energy_place (get_or before energy_place 0 + used.wh) ∙ long in
-      let second : count_place < length (increased before energy_place used.wh) = omega (arith, long-still, count-word-bound r.registration) in
-      totals-are shapes (meters ++ (r ∷ [])) direction network (increased (increased before energy_place used.wh) count_place 1)
-      (length-set (increased before energy_place used.wh) count_place (get_or (increased before energy_place used.wh) count_place 0 + 1) ∙ long-still)
+      let first : energy_place < length before = omega (arith, long, estimate-most used.source) in
+      let long-still : length (increased before energy_place (wh_of used)) ≡ totals_words = length-set before energy_place (get_or before energy_place 0 + (wh_of used)) ∙ long in
+      let second : count_place < length (increased before energy_place (wh_of used)) = omega (arith, long-still, count-word-bound r.registration) in
+      totals-are shapes (meters ++ (r ∷ [])) direction network (increased (increased before energy_place (wh_of used)) count_place 1)
+      (length-set (increased before energy_place (wh_of used)) count_place (get_or (increased before energy_place (wh_of used)) count_place 0 + 1) ∙ long-still)
       (λ t k h l.
       omega (
         arith,
-        increased-at (increased before energy_place used.wh) count_place 1 (4 * t + k) second,
-        increased-at before energy_place used.wh (4 * t + k) first,
+        increased-at (increased before energy_place (wh_of used)) count_place 1 (4 * t + k) second,
+        increased-at before energy_place (wh_of used) (4 * t + k) first,
         gives_at same busy t k l,
         word_more t k h l,
       ))
@@ -197,22 +198,21 @@ module _ (shapes : List ℕ) (meters : List Row) (r : Row) (direction network : 
   pub totals-more : asked ≡ true → with_meter before r.registration used ≡ after
   unfolding with_meter
   totals-more same =
-      rw (idle-number (source_of r.registration r.reading))
-      (by-test (is_idle (source_of r.registration r.reading))
+      by-test (is_idle (source_of r.registration r.reading))
       (λ idle. rw idle (idle-kept idle))
-      (λ busy. rw busy (used-added same busy)))
+      (λ busy. rw busy (used-added same busy))
 
 -- the words past the totals stay as they were
 pub with-meter-append : (xs ys : List ℕ) (registration : ℕ) (used : Use) → length xs ≡ totals_words → with_meter (xs ++ ys) registration used ≡ with_meter xs registration used ++ ys
 unfolding with_meter
 with-meter-append xs ys registration used long =
-    let energy_place = 4 * tariff_of registration + estimate_of used.source in
+    let energy_place = 4 * tariff_of registration + estimate_bit used.source in
     let count_place = 4 * tariff_of registration + count_word registration in
-    let first : energy_place < length xs = omega (arith, estimate-few used.source) in
-    let second : count_place < length (increased xs energy_place used.wh) = rw length-set (omega (arith, count-word-bound registration)) in
-    by-test (eqb used.source 3)
+    let first : energy_place < length xs = omega (arith, estimate-most used.source) in
+    let second : count_place < length (increased xs energy_place (wh_of used)) = rw length-set (omega (arith, count-word-bound registration)) in
+    by-test (is_idle used.source)
     (λ t. rw t)
     (λ t.
     rw t
-    (ap (λ (l : List ℕ). increased l count_place 1) (increased-append xs ys energy_place used.wh first)
-    ∙ increased-append (increased xs energy_place used.wh) ys count_place 1 second))
+    (ap (λ (l : List ℕ). increased l count_place 1) (increased-append xs ys energy_place (wh_of used) first)
+    ∙ increased-append (increased xs energy_place (wh_of used)) ys count_place 1 second))

@@ -9,7 +9,9 @@ use lib.ListN.{length, get_or, get_or-append}
 use lib.Seq.{ext_get_or}
 use Rattle.words.specs.Registration.{status_of}
 use Rattle.book.specs.Rows.{Row}
-use Rattle.cells.specs.Energy.{Source, actual_reading, estimated_reading, shape_default, no_energy, source_of, energy_wh, energised, de_energised}
+use Rattle.cells.specs.declared.Source.{Source}
+use Rattle.cells.specs.declared.Source.TheVariants.{Actual, Estimated, Defaulted, Idle}
+use Rattle.cells.specs.Energy.{source_of, energy_wh, energised, de_energised}
 use Rattle.cells.proofs.Each.{Each}
 use Rattle.cells.proofs.RowBounds.{RowBounds}
 use Rattle.totals.specs.Totals.{tariffs, totals_words, is_charged, actual_from, actual_wh, other_from, other_wh, is_idle, one_of, sum_where, tariff_totals, totals_from, totals_of}
@@ -76,17 +78,17 @@ module _ (shapes : List ℕ) (meters : List Row) (direction network : ℕ) where
 
 actual-most : (s : Source) (wh : ℕ) → actual_from s wh ≤ wh
 unfolding actual_from
-actual-most actual_reading wh = omega arith
-actual-most estimated_reading wh = omega arith
-actual-most shape_default wh = omega arith
-actual-most no_energy wh = omega arith
+actual-most Actual wh = omega arith
+actual-most Estimated wh = omega arith
+actual-most Defaulted wh = omega arith
+actual-most Idle wh = omega arith
 
 other-most : (s : Source) (wh : ℕ) → other_from s wh ≤ wh
 unfolding other_from
-other-most actual_reading wh = omega arith
-other-most estimated_reading wh = omega arith
-other-most shape_default wh = omega arith
-other-most no_energy wh = omega arith
+other-most Actual wh = omega arith
+other-most Estimated wh = omega arith
+other-most Defaulted wh = omega arith
+other-most Idle wh = omega arith
 
 one-most : (status registration reading : ℕ) → one_of status registration reading ≤ 1
 unfolding one_of

@@ -1,22 +1,27 @@
 -- The ways of a totals call, one for each cause and one for acceptance, and what its steps need.
-use Prim.Native.Nat.{ℕ, suc, ◌*◌, ◌≤◌, ◌<◌}
-use mathlib.Core.Path.{◌≡◌, refl, ◌∙◌, ap}
-use mathlib.Core.Bool.{true, false, not, ◌&&◌, and-eq-true_iff}
+use Prim.Native.Nat.{ℕ, zero, suc, ◌≤◌, ◌<◌}
+use mathlib.Core.Path.{◌≡◌, refl, sym, ◌∙◌, ap}
+use mathlib.Core.Bool.{Bool, true, false, not, ◌&&◌}
 use mathlib.Core.List.{List, ◌++◌}
 use native.Mathlib.Omega.{arith}
-use borrow.Author.Tests.{le-ltb, ltb-false, leb-true, not-false}
+use borrow.Author.Tests.{le-ltb, ltb-false, not-false}
 use lib.Dec.{leb, ltb}
 use lib.ListN.{length, get_or, drop, replicate, length-append, length-replicate, get_or-replicate, get_or-append}
 use lib.Seq.{drop_at}
-use Rattle.refusals.specs.Causes.{refuse, book_ill_formed, argument_out_of_range, totals_short, shape_of_default_missing, accepted}
+use Rattle.refusals.specs.Causes.{refuse, argument_out_of_range, totals_short, accepted}
+use Rattle.std.specs.Prelude.{Ok, Err}
+use Rattle.refusals.specs.declared.Refusal.{Refusal}
+use Rattle.refusals.specs.declared.Refusal.TheVariants.{BookIllFormed, ShapeOfDefaultMissing}
+use Rattle.refusals.specs.Refusal.{number_of}
 use Rattle.refusals.proofs.Passed.{passed}
+use Rattle.refusals.proofs.Numbers.{not-accepted}
 use Rattle.words.specs.Limits.{direction_most, network_most}
-use Rattle.words.proofs.Tests.{by-test}
 use Rattle.book.specs.declared.Settings.{Settings}
-use Rattle.book.specs.Limits.{categories}
 use Rattle.book.specs.Rows.{Row, capacity, rows_of}
 use Rattle.book.specs.Book.{used_rows, well_formed, lent}
-use Rattle.book.proofs.WellFormed.{room, formed-book, formed-settings}
+use Rattle.book.specs.Helpers.{answer_of}
+use Rattle.book.proofs.RowsOf.{length-rows}
+use Rattle.book.proofs.WellFormed.{formed-book, formed-settings}
 use Rattle.cells.specs.Energy.{any_lacks_shape}
 use Rattle.totals.specs.Totals.{totals_words, totals_of, arguments_cause, totals_cause, totals_outcome, totals_call, TotalsGives}
 use Rattle.totals.specs.Helpers.{AddRowsArguments}
@@ -36,94 +41,81 @@ module _ (n : ℕ) {xs : List ℕ} (ys : List ℕ) (filled : xs ≡ replicate n 
   filled-rest : drop n xs ≡ ys
   filled-rest = rw filled (drop_at (replicate n 0) ys n (length-replicate n 0))
 
--- what the steps need of a well-formed book
-module _ (s : Settings) (words : List ℕ) (wf : well_formed (lent s words) ≡ true) where
-  pub meters-room : 3 * s.meters ≤ length words
-  meters-room = room words s.meters (formed-book (lent s words) wf).within
+-- what adding the rows of a well-formed book needs
+pub add-rows-arguments : (s : Settings) (words : List ℕ) → well_formed (lent s words) ≡ true → (slice : List ℕ) {filled : List ℕ} → filled ≡ replicate totals_words 0 ++ drop totals_words slice → AddRowsArguments filled (meters_in s words) s.shapes
+unfolding used_rows capacity
+add-rows-arguments s words wf slice e =
+    let book = formed-book (lent s words) wf in
+    record {
+      few = omega (arith, book.within, length-rows s.meters words);
+      rows-formed = book.rows-formed;
+      shapes-formed = (formed-settings s book.settings-formed).shapes-formed;
+      totals-long = filled-long totals_words (drop totals_words slice) e;
+      totals-empty = filled_zero totals_words (drop totals_words slice) e;
+    }
 
-  pub add-rows-arguments : length s.shapes ≡ categories → (slice : List ℕ) {filled : List ℕ} → filled ≡ replicate totals_words 0 ++ drop totals_words slice → AddRowsArguments filled words s.meters s.shapes
-  unfolding used_rows capacity
-  add-rows-arguments long slice e =
-      let book = formed-book (lent s words) wf in
-      record {
-        room = meters-room;
-        few = omega (arith, book.within);
-        rows-formed = book.rows-formed;
-        shapes-formed = (formed-settings s book.settings-formed).shapes-formed;
-        shapes-long = long;
-        totals-long = filled-long totals_words (drop totals_words slice) e;
-        totals-empty = filled_zero totals_words (drop totals_words slice) e;
-      }
+-- where neither cause 2 nor cause 12 is given, the causes after them are
+module _ (direction network : ℕ) (slice : List ℕ) (e : accepted ≡ arguments_cause direction network (length slice) accepted) where
+  both-passed : ((leb direction direction_most && leb network network_most) ≡ true) × (totals_words ≤ length slice)
+  both-passed =
+      let first = passed (not (leb direction direction_most && leb network network_most)) 1 (refuse (ltb (length slice) totals_words) totals_short accepted) (sym e) in
+      let second = passed (ltb (length slice) totals_words) 11 accepted first.1 in
+      (not-false _ first.0, ltb-false (length slice) totals_words second.0)
 
--- where neither cause 2 nor cause 12 is given
-pub arguments-passed : (direction network : ℕ) (slice : List ℕ) → arguments_cause direction network (length slice) accepted ≡ accepted
-    → ((leb direction direction_most && leb network network_most) ≡ true) × (totals_words ≤ length slice)
-arguments-passed direction network slice e =
-    let first = passed (not (leb direction direction_most && leb network network_most)) 1 (refuse (ltb (length slice) totals_words) totals_short accepted) e in
-    let second = passed (ltb (length slice) totals_words) 11 accepted first.1 in
-    (not-false _ first.0, ltb-false (length slice) totals_words second.0)
-
-pub asked-bounds : (direction network : ℕ) → (leb direction direction_most && leb network network_most) ≡ true → (direction ≤ direction_most) × (network ≤ network_most)
-asked-bounds direction network h =
-    let k = simp and-eq-true_iff at h in
-    (leb-true direction direction_most k.0, leb-true network network_most k.1)
+  causes_after : (rest : ℕ) → arguments_cause direction network (length slice) rest ≡ rest
+  causes_after rest = rw (both-passed.0, le-ltb (length slice) totals_words both-passed.1)
 
 -- the ways
 module _ (s : Settings) (words : List ℕ) (direction network : ℕ) (slice : List ℕ) where
   -- a refusal leaves all as it was
-  refusal : (k : ℕ) → totals_cause (lent s words) direction network slice ≡ suc k
-      → TotalsGives (totals_call (lent s words) direction network slice) (record { number = suc k; settings = s }) words slice
-  unfolding totals_call totals_outcome
-  refusal k h = rw h (record { number = refl; settings = refl; rows = refl; totals = refl })
+  left : (cause : ℕ) → (cause ≡ accepted → ⊥) → totals_outcome cause (lent s words) direction network slice ≡ record { number = cause; book = lent s words; totals = slice }
+  unfolding totals_outcome
+  left zero some = absurd (some refl)
+  left (suc k) some = refl
 
-  pub way-ill-formed : well_formed (lent s words) ≡ false → TotalsGives (totals_call (lent s words) direction network slice) (record { number = book_ill_formed; settings = s }) words slice
+  refused : (r : Refusal) → totals_cause (lent s words) direction network slice ≡ number_of r → TotalsGives (totals_call (lent s words) direction network slice) (answer_of s (Err r)) words slice
+  unfolding totals_call
+  refused r h = rw (h, left (number_of r) (not-accepted r)) (record { number = refl; settings = refl; rows = refl; totals = refl })
+
+  pub way-ill-formed : well_formed (lent s words) ≡ false → TotalsGives (totals_call (lent s words) direction network slice) (answer_of s (Err BookIllFormed)) words slice
   unfolding totals_cause
-  way-ill-formed h = refusal 0 (rw h)
+  way-ill-formed h = refused BookIllFormed (rw h)
 
   module _ (wf : well_formed (lent s words) ≡ true) where
     -- causes 2 and 12
-    way-out-of-range : (leb direction direction_most && leb network network_most) ≡ false
-        → TotalsGives (totals_call (lent s words) direction network slice) (record { number = argument_out_of_range; settings = s }) words slice
+    pub way-refused : (r : Refusal) → number_of r ≡ arguments_cause direction network (length slice) accepted
+        → TotalsGives (totals_call (lent s words) direction network slice) (answer_of s (Err r)) words slice
     unfolding totals_cause
-    way-out-of-range h = refusal 1 (rw (wf, h))
+    way-refused r e = refused r (rw wf (kept (not (leb direction direction_most && leb network network_most)) (ltb (length slice) totals_words) _ (sym e)))
+      where
+        -- one of the two applies, so that no cause after them is given
+        kept : (out short : Bool) (rest : ℕ) → refuse out argument_out_of_range (refuse short totals_short accepted) ≡ number_of r
+            → refuse out argument_out_of_range (refuse short totals_short rest) ≡ number_of r
+        kept true short rest h = h
+        kept false true rest h = h
+        kept false false rest h = absurd (not-accepted r (sym h))
 
-    way-short : (leb direction direction_most && leb network network_most) ≡ true → ltb (length slice) totals_words ≡ true
-        → TotalsGives (totals_call (lent s words) direction network slice) (record { number = totals_short; settings = s }) words slice
-    unfolding totals_cause
-    way-short range h = refusal 11 (rw (wf, range, h))
+    module _ (passed : accepted ≡ arguments_cause direction network (length slice) accepted) where
+      pub way-lacks : any_lacks_shape s.shapes (meters_in s words) ≡ true
+          → TotalsGives (totals_call (lent s words) direction network slice) (answer_of s (Err ShapeOfDefaultMissing)) words slice
+      unfolding totals_cause used_rows
+      way-lacks h = refused ShapeOfDefaultMissing (rw (wf, causes_after direction network slice passed, h))
 
-    pub way-refused : (cause : ℕ) → cause ≡ arguments_cause direction network (length slice) accepted → (cause ≡ accepted → ⊥)
-        → TotalsGives (totals_call (lent s words) direction network slice) (record { number = cause; settings = s }) words slice
-    way-refused cause e some =
-        by-test (leb direction direction_most && leb network network_most)
-        (λ range.
-        by-test (ltb (length slice) totals_words)
-        (λ short. rw (e, range, short) (way-short range short))
-        (λ long. absurd (some (e ∙ rw (range, long)))))
-        (λ out. rw (e, out) (way-out-of-range out))
-
-    module _ (range : (leb direction direction_most && leb network network_most) ≡ true) where
-      module _ (long : totals_words ≤ length slice) where
-        pub way-lacks : any_lacks_shape s.shapes (meters_in s words) ≡ true
-            → TotalsGives (totals_call (lent s words) direction network slice) (record { number = shape_of_default_missing; settings = s }) words slice
+      module _ (shaped : any_lacks_shape s.shapes (meters_in s words) ≡ false) where
+        no-cause : totals_cause (lent s words) direction network slice ≡ accepted
         unfolding totals_cause used_rows
-        way-lacks h = refusal 8 (rw (wf, range, le-ltb (length slice) totals_words long, h))
+        no-cause = rw (wf, causes_after direction network slice passed, shaped)
 
-        module _ (shaped : any_lacks_shape s.shapes (meters_in s words) ≡ false) where
-          no-cause : totals_cause (lent s words) direction network slice ≡ accepted
-          unfolding totals_cause used_rows
-          no-cause = rw (wf, range, le-ltb (length slice) totals_words long, shaped)
-
-          -- the first words filled with 0, and the rows added to them
-          pub way-written : {filled after : List ℕ} → filled ≡ replicate totals_words 0 ++ drop totals_words slice
-              → after ≡ totals_of s.shapes (meters_in s words) direction network ++ drop totals_words filled
-              → TotalsGives (totals_call (lent s words) direction network slice) (record { number = accepted; settings = s }) words after
-          unfolding totals_call totals_outcome used_rows
-          way-written e added =
-              rw no-cause
-              (record {
-                number = refl;
-                settings = refl;
-                rows = refl;
-                totals = added ∙ ap (λ (xs : List ℕ). totals_of s.shapes (meters_in s words) direction network ++ xs) (filled-rest totals_words (drop totals_words slice) e);
-              })
+        -- the first words filled with 0, and the rows added to them
+        pub way-written : {filled after : List ℕ} → filled ≡ replicate totals_words 0 ++ drop totals_words slice
+            → after ≡ totals_of s.shapes (meters_in s words) direction network ++ drop totals_words filled
+            → TotalsGives (totals_call (lent s words) direction network slice) (answer_of s (Ok s)) words after
+        unfolding totals_call totals_outcome used_rows
+        way-written e added =
+            rw no-cause
+            (record {
+              number = refl;
+              settings = refl;
+              rows = refl;
+              totals = added ∙ ap (λ (xs : List ℕ). totals_of s.shapes (meters_in s words) direction network ++ xs) (filled-rest totals_words (drop totals_words slice) e);
+            })

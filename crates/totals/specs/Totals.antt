@@ -6,7 +6,9 @@ use Rattle.words.specs.Registration.{direction_of, status_of, network_of, tariff
 use Rattle.book.specs.declared.Answer.{Answer}
 use Rattle.book.specs.Rows.{Row}
 use Rattle.book.specs.Book.{Book, used_rows, well_formed}
-use Rattle.cells.specs.Energy.{Source, actual_reading, estimated_reading, shape_default, no_energy, source_of, energy_wh, any_lacks_shape, energised, de_energised}
+use Rattle.cells.specs.declared.Source.{Source}
+use Rattle.cells.specs.declared.Source.TheVariants.{Actual, Estimated, Defaulted, Idle}
+use Rattle.cells.specs.Energy.{source_of, energy_wh, any_lacks_shape, energised, de_energised}
 
 -- "a tariff (0 to 1,023)", "an embedded network (0 to 63 [..])": how many there are
 abbrev pub tariffs : ℕ
@@ -26,30 +28,30 @@ is_charged direction network tariff registration =
 
 -- "actual Wh": energy that comes from a reading in use of an actual code
 unfoldable pub actual_from : Source → ℕ → ℕ
-actual_from actual_reading wh = wh
-actual_from estimated_reading wh = 0
-actual_from shape_default wh = 0
-actual_from no_energy wh = 0
+actual_from Actual wh = wh
+actual_from Estimated wh = 0
+actual_from Defaulted wh = 0
+actual_from Idle wh = 0
 
 abbrev pub actual_wh : List ℕ → ℕ → ℕ → ℕ
 actual_wh shapes registration reading = actual_from (source_of registration reading) (energy_wh shapes registration reading)
 
 -- "other Wh", "Defaults count as other"
 unfoldable pub other_from : Source → ℕ → ℕ
-other_from actual_reading wh = 0
-other_from estimated_reading wh = wh
-other_from shape_default wh = wh
-other_from no_energy wh = 0
+other_from Actual wh = 0
+other_from Estimated wh = wh
+other_from Defaulted wh = wh
+other_from Idle wh = 0
 
 abbrev pub other_wh : List ℕ → ℕ → ℕ → ℕ
 other_wh shapes registration reading = other_from (source_of registration reading) (energy_wh shapes registration reading)
 
 -- "meters not idle"
 unfoldable pub is_idle : Source → Bool
-is_idle actual_reading = false
-is_idle estimated_reading = false
-is_idle shape_default = false
-is_idle no_energy = true
+is_idle Actual = false
+is_idle Estimated = false
+is_idle Defaulted = false
+is_idle Idle = true
 
 -- "how many meters not idle are energised and de-energised": 1 for one that is not idle and has this status, else 0
 unfoldable pub one_of : ℕ → ℕ → ℕ → ℕ

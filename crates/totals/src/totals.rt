@@ -1,133 +1,149 @@
 // The totals call: for each tariff, the energy and the meters of one direction and embedded network.
-ghost use Rattle.std.specs.Prelude.{◌≡◌, ◌&&◌, ◌++◌, ◌+◌, ◌*◌, ◌^◌, ◌≤◌, ◌<◌, eqb, length, drop, get_or};
+ghost use Rattle.std.specs.Prelude.{◌≡◌, ◌&&◌, ◌++◌, ◌+◌, ◌*◌, ◌≤◌, IfOk, OnOk, eqb, map, drop};
 ghost use Rattle.refusals.specs.Causes.{accepted};
+ghost use Rattle.refusals.specs.Refusal.{number_given};
 ghost use Rattle.words.specs.Limits.{direction_most, network_most};
 ghost use Rattle.words.specs.Registration.{direction_of, network_of, tariff_of};
-ghost use Rattle.book.specs.Limits.{categories};
-ghost use Rattle.book.specs.Rows.{rows_of};
 ghost use Rattle.book.specs.Book.{lent};
+ghost use Rattle.book.specs.Helpers.{answer_of};
+ghost use Rattle.book.specs.Rows.{first_row};
 ghost use Rattle.cells.specs.Energy.{any_lacks_shape};
 ghost use Rattle.totals.specs.Totals.{totals_words, totals_of, arguments_cause, totals_call, TotalsGives};
-ghost use Rattle.totals.specs.Helpers.{increased, with_meter, AddArguments, AddRowsArguments};
+ghost use Rattle.totals.specs.Helpers.{count_word, with_meter, AddArguments, AddRowsArguments};
 
 use book::formed::is_formed;
+use book::rows::first_rows;
 use book::{Answer, Settings};
-use cells::Use;
-use cells::meters::{ACTUAL, ENERGISED, IDLE, lacks_shape, use_of};
-use refusals::{
-    ACCEPTED, ARGUMENT_OUT_OF_RANGE, BOOK_ILL_FORMED, SHAPE_OF_DEFAULT_MISSING, TOTALS_SHORT,
-};
-use words::{Registration, fill};
+use cells::meters::{ENERGISED, lacks_shape, use_of};
+use cells::{Source, Use};
+use refusals::Refusal;
+use words::Registration;
+use words::field::Field;
 
 pub const TARIFFS: usize = 1_024;
 
 // Four words for each tariff.
 pub const TOTALS_WORDS: usize = 4_096;
 
-// Whether a defaulted meter of the first n rows lacks its shape, whatever its direction and network. The outcomes are joined, with no
-// way out of the loop before its end, since nearly every book has all the shapes that it uses.
-fn any_lacks(rows: &[u64], n: usize, shapes: &[u32; 64]) -> bool
-    requires fact_1 { 3 * n ≤ length rows.now }
-    requires fact_2 { length shapes.now ≡ categories }
-    ensures { result ≡ any_lacks_shape shapes.now (rows_of n rows.now) }
+// What is asked for: one direction and one embedded network.
+#[derive(Clone, Copy)]
+struct Asked {
+    direction: u64,
+    network: u64,
+    ghost direction_within: { direction ≤ direction_most },
+    ghost network_within: { network ≤ network_most },
+}
+
+impl Asked {
+    // What is asked for and answered in a slice of so many words: a direction or a network out of range comes before a slice that is
+    // too short.
+    fn new(direction: u64, network: u64, words: usize) -> Result<Asked, Refusal>
+        ensures number { number_given result ≡ arguments_cause direction network words accepted }
+        ensures direction { IfOk result (λ asked. asked.direction ≡ direction) }
+        ensures network { IfOk result (λ asked. asked.network ≡ network) }
+        ensures room { OnOk result (totals_words ≤ words) }
+    {
+        let ranged = (direction <= Registration::DIRECTION_MAX)
+            & (network <= Registration::NETWORK_MAX);
+        let short = words < TOTALS_WORDS;
+        if !ranged {
+            return Err(Refusal::ArgumentOutOfRange);
+        }
+        if short {
+            return Err(Refusal::TotalsShort);
+        }
+        Ok(Asked { direction, network })
+    }
+
+    // Whether a meter is of the direction and the network.
+    fn includes(self, registration: u64) -> bool
+        ensures { result ≡ (eqb (direction_of registration) self.direction && eqb (network_of registration) self.network) }
+    {
+        words::charged(registration) == words::charged_to(self.direction, self.network)
+    }
+}
+
+// Whether a defaulted meter lacks its shape, whatever its direction and network. The outcomes are joined, with no way out of the loop
+// before its end, since nearly every book has all the shapes that it uses.
+fn any_lacks(rows: &[[u64; 3]], shapes: &[u32; 64]) -> bool
+    ensures { result ≡ any_lacks_shape shapes.now (map first_row rows.now) }
 {
     let mut lacks = false;
-    let mut i = 0;
-    while i < n {
-        let registration = rows[3 * i + 1];
-        let reading = rows[3 * i + 2];
-        let missing = lacks_shape(shapes, registration, reading);
-        lacks = lacks | missing;
-        i += 1;
+    for &[_, registration, reading] in rows {
+        lacks |= lacks_shape(shapes, registration, reading);
     }
     lacks
-}
-
-// The number of the refusal for what is asked and lent, or 0: a direction or a network out of range comes before a slice that is
-// too short.
-fn arguments_cause(direction: u64, network: u64, words: usize) -> u64
-    ensures { result ≡ arguments_cause direction network words accepted }
-{
-    let ranged = (direction <= Registration::DIRECTION_MAX)
-        & (network <= Registration::NETWORK_MAX);
-    let short = words < TOTALS_WORDS;
-    if !ranged {
-        return ARGUMENT_OUT_OF_RANGE;
-    }
-    if short {
-        return TOTALS_SHORT;
-    }
-    ACCEPTED
-}
-
-// Whether a meter is of the direction and the network that are asked for.
-fn is_asked(registration: u64, direction: u64, network: u64) -> bool
-    requires fact_1 { direction ≤ direction_most }
-    requires fact_2 { network ≤ network_most }
-    ensures { result ≡ (eqb (direction_of registration) direction && eqb (network_of registration) network) }
-{
-    words::charged(registration) == words::charged_to(direction, network)
 }
 
 // Where the four words of a meter's tariff start.
 fn first_word(registration: u64) -> usize
     ensures { result ≡ 4 * tariff_of registration }
 {
-    4 * (words::tariff(registration) as usize)
+    // Kept: `as`, since there is no `From` of a u64 for an index.
+    4 * (Field::TARIFF.of(registration) as usize)
 }
 
-// Adds an amount to one number of a slice.
-fn add(numbers: &mut [u64], at: usize, amount: u64)
-    requires { (at < length numbers.old) × (get_or numbers.old at 0 + amount < 2 ^ 64) }
-    ensures { numbers.new ≡ increased numbers.old at amount }
+// Which of the four words counts a meter, by its status. A meter that is not idle and not energised is de-energised.
+fn count_word(registration: u64) -> usize
+    ensures { result ≡ count_word registration }
 {
-    numbers[at] = numbers[at] + amount;
+    if Field::STATUS.of(registration) == ENERGISED {
+        2
+    } else {
+        3
+    }
 }
 
-// Adds a meter to the words of its tariff: its energy to the actual or the other Wh, and itself to the meters of its status. A meter
-// that is not idle and not energised is de-energised.
+// Adds a meter to the words of its tariff: its energy to the actual or the other Wh, and itself to the meters of its status.
+#[tactic(auto, using(crate::proofs::OneMore::few))]
 fn add_meter(totals: &mut [u64], registration: u64, meter: Use)
     requires { AddArguments totals.old meter }
     ensures { totals.new ≡ with_meter totals.old registration meter }
 {
-    if meter.source == IDLE {
+    if meter.source == Source::Idle {
         return;
     }
     let first = first_word(registration);
-    let energy = if meter.source == ACTUAL { 0 } else { 1 };
-    let count = if words::status(registration) == ENERGISED {
-        2
-    } else {
-        3
-    };
-    add(totals, first + energy, meter.wh);
-    add(totals, first + count, 1);
+    // Kept: `as`, since there is no `From` of a u64 for an index.
+    let energy = first + meter.source.estimate_bit() as usize;
+    let count = first + count_word(registration);
+    totals[energy] += meter.wh.unwrap_or(0);
+    totals[count] += 1;
 }
 
-// Adds the first n rows to totals that are still 0. A meter of another direction or network is passed over before its energy is
-// worked out.
-fn add_rows(
-    totals: &mut [u64],
+// Adds the rows to totals that are still 0. A meter of another direction or network is passed over before its energy is worked out.
+fn add_rows(totals: &mut [u64], rows: &[[u64; 3]], shapes: &[u32; 64], asked: Asked)
+    requires { AddRowsArguments totals.old (map first_row rows.now) shapes.now }
+    ensures { totals.new ≡ totals_of shapes.now (map first_row rows.now) asked.direction asked.network ++ drop totals_words totals.old }
+{
+    for &[_, registration, reading] in rows {
+        if asked.includes(registration) {
+            add_meter(totals, registration, use_of(shapes, registration, reading));
+        }
+    }
+}
+
+// Writes the totals, or gives the refusal of the call. The settings are those given.
+fn write_totals(
+    settings: Settings,
     rows: &[u64],
-    n: usize,
-    shapes: &[u32; 64],
     direction: u64,
     network: u64,
-)
-    requires fact_1 { AddRowsArguments totals.old rows.now n shapes.now }
-    requires fact_2 { direction ≤ direction_most }
-    requires fact_3 { network ≤ network_most }
-    ensures { totals.new ≡ totals_of shapes.now (rows_of n rows.now) direction network ++ drop totals_words totals.old }
+    totals: &mut [u64],
+) -> Result<Settings, Refusal>
+    ensures { TotalsGives (totals_call (lent settings rows.now) direction network totals.old) (answer_of settings result) rows.now totals.new }
 {
-    let mut i = 0;
-    while i < n {
-        let registration = rows[3 * i + 1];
-        if is_asked(registration, direction, network) {
-            let meter = use_of(shapes, registration, rows[3 * i + 2]);
-            add_meter(totals, registration, meter);
-        }
-        i += 1;
+    if !is_formed(settings, rows) {
+        return Err(Refusal::BookIllFormed);
     }
+    let asked = Asked::new(direction, network, totals.len())?;
+    let meters = first_rows(rows, settings.meters);
+    if any_lacks(meters, &settings.shapes) {
+        return Err(Refusal::ShapeOfDefaultMissing);
+    }
+    totals[..TOTALS_WORDS].fill(0);
+    add_rows(totals, meters, &settings.shapes, asked);
+    Ok(settings)
 }
 
 // Writes the four words of each tariff to the first words of the totals slice, and changes nothing in the book.
@@ -140,30 +156,8 @@ pub fn totals(
 ) -> Answer
     ensures { TotalsGives (totals_call (lent settings rows.now) direction network totals.old) result rows.now totals.new }
 {
-    if !is_formed(settings, rows) {
-        return Answer {
-            number: BOOK_ILL_FORMED,
-            settings,
-        };
-    }
-    let cause = arguments_cause(direction, network, totals.len());
-    if cause != ACCEPTED {
-        return Answer {
-            number: cause,
-            settings,
-        };
-    }
-    let shapes = settings.shapes;
-    if any_lacks(rows, settings.meters, &shapes) {
-        return Answer {
-            number: SHAPE_OF_DEFAULT_MISSING,
-            settings,
-        };
-    }
-    fill(totals, TOTALS_WORDS, 0);
-    add_rows(totals, rows, settings.meters, &shapes, direction, network);
-    Answer {
-        number: ACCEPTED,
+    Answer::of(
         settings,
-    }
+        write_totals(settings, rows, direction, network, totals),
+    )
 }

@@ -51,6 +51,11 @@ pub as-one-none : (n : ℕ) (words : List ℕ) → 3 * n ≤ length words → as
 unfolding as_one later_rows merged rows_of
 as-one-none n words h = written_same n words h
 
+-- merged, they are one part, which stands for the same rows
+pub merged-same : {first later first' later' : ℕ} {words words' : List ℕ} → PartsReady first later words → first' ≡ first + later → later' ≡ 0 → words' ≡ as_one first later words → as_one first' later' words' ≡ as_one first later words
+merged-same {first} {later} {words = words} ready f l w =
+    rw (f, l, w) (as-one-none (first + later) (as_one first later words) (omega (arith, as-one-length first later words ready, both-fit ready)))
+
 pub none-later : (n : ℕ) (words : List ℕ) → RowsReady n words → PartsReady n 0 words
 unfolding later_rows rows_of is_known
 none-later n words ready =
@@ -61,3 +66,6 @@ none-later n words ready =
       later-formed = formed-none 0;
       apart = λ m k. absurd (true≢false (sym k));
     }
+
+pub merged-ready : {first later : ℕ} {words words' : List ℕ} → PartsReady first later words → words' ≡ as_one first later words → PartsReady (first + later) 0 words'
+merged-ready {first} {later} {words} ready e = rw e (none-later (first + later) (as_one first later words) (as-one-ready first later words ready))

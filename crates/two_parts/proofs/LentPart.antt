@@ -20,7 +20,7 @@ rows-longer (suc n) (a ∷ b ∷ []) ys h = absurd (omega arith)
 rows-longer (suc n) (a ∷ b ∷ c ∷ xs) ys h = ap (λ (l : List Row). row a b c ∷ l) (rows-longer n xs ys (omega arith))
 
 -- and of its front
-rows_taken : (n j : ℕ) (xs : List ℕ) → 3 * n ≤ j → j ≤ length xs → rows_of n (take j xs) ≡ rows_of n xs
+pub rows_taken : (n j : ℕ) (xs : List ℕ) → 3 * n ≤ j → j ≤ length xs → rows_of n (take j xs) ≡ rows_of n xs
 rows_taken n j xs h l =
     sym (rows-longer n (take j xs) (drop j xs) (rw (length-take-le j xs l) h)) ∙ ap (rows_of n) (take-append-drop j xs)
 

@@ -8,6 +8,8 @@ use borrow.Author.Tests.{not-false, le-leb, leb-true, leb-false}
 use borrow.Rule.Slice.PartMut.{mid_of, put_mid}
 use lib.Dec.{leb}
 use lib.ListN.{length}
+use Rattle.std.specs.Prelude.{Result}
+use Rattle.refusals.specs.declared.Refusal.{Refusal}
 use Rattle.refusals.specs.Causes.{refuse, accepted, capacity_reached}
 use Rattle.refusals.proofs.Passed.{passed}
 use Rattle.words.specs.declared.Registration.{Registration}
@@ -15,16 +17,17 @@ use Rattle.words.specs.Registration.{registration_word}
 use Rattle.words.proofs.Tests.{by-test, same_test}
 use Rattle.book.specs.declared.Stored.{Stored}
 use Rattle.book.specs.Rows.{Row, capacity, rows_of, rows_formed, is_known, with_registration}
-use Rattle.book.specs.Store.{register_in_range, has_no_room, registration_cause}
-use Rattle.book.specs.Helpers.{registration_storing, Stores}
+use Rattle.book.specs.Store.{register_in_range, has_no_room, word_cause, registration_cause}
+use Rattle.book.specs.Helpers.{word_storing, registration_storing, RowsReady, Stores}
 use Rattle.book.proofs.StoredFormed.{rows-registered}
 use Rattle.book.proofs.RowsOf.{length-rows}
 use Rattle.book.proofs.WithRegistration.{length_inserted, length-replaced}
-use Rattle.two_parts.specs.TwoParts.{merged, later_rows, PartsReady, stored_first, StoresApart}
+use Rattle.two_parts.specs.TwoParts.{merged, later_rows, PartsReady}
+use Rattle.two_parts.specs.Apart.{meters_after}
 use Rattle.two_parts.proofs.Merged.{length_merged, known-merged-first, known-merged-later, registered-first, registered-later}
 use Rattle.two_parts.proofs.KnownAfter.{registered-first-apart, registered-later-apart, apart-the-other-way}
 use Rattle.two_parts.proofs.LentPart.{part_after, part-capacity}
-use Rattle.two_parts.proofs.StoredApart.{first-stored}
+use Rattle.two_parts.proofs.StoredApart.{LeavesApart, after-most, first-stored}
 use Rattle.two_parts.proofs.LaterStored.{first-within, later-count, later-stored}
 
 -- what rows that take a registration tell: it is in range, and there is room
@@ -40,10 +43,24 @@ module _ (cap m : ℕ) (r : Registration) (rows : List Row) (c : registration_ca
       let p = passed (not (register_in_range m r)) 1 (refuse (has_no_room cap m rows) capacity_reached accepted) c in
       leb-false cap (length rows) (rw unknown at (passed (has_no_room cap m rows) 5 accepted p.1).0)
 
+-- a registration adds one row at most
+registered-count : (m w : ℕ) (rows : List Row) → rows_formed 0 rows ≡ true → length (with_registration m w rows) ≤ length rows + 1
+registered-count m w rows formed =
+    by-test (is_known m rows)
+    (λ k. omega (arith, length-replaced 0 m w rows formed k))
+    (λ k. omega (arith, length_inserted m w rows k))
+
+pub registered-most : (cap w : ℕ) {m n : ℕ} {words words' : List ℕ} {outcome : Result Stored Refusal} → RowsReady n words → Stores m (word_storing cap m w) n words outcome words' → meters_after n outcome ≤ n + 1
+unfolding word_storing
+registered-most cap w {m} {n} {words} ready x =
+    let rows = rows_of n words in
+    after-most m n words (word_cause cap m) (with_registration m w) (n + 1) (omega arith)
+    (omega (arith, registered-count m w rows ready.formed, length-rows n words)) x
+
 module _ (first later : ℕ) (words : List ℕ) (ready : PartsReady first later words) (m : ℕ) (r : Registration) where
   -- a meter of the first part
-  pub registered-there : is_known m (rows_of first words) ≡ true → {stored : Stored} {words_after : List ℕ}
-      → Stores m (registration_storing (capacity words) m r) first words stored words_after → StoresApart m (registration_storing (capacity words) m r) first later words (stored_first later stored) words_after
+  pub registered-there : is_known m (rows_of first words) ≡ true → {outcome : Result Stored Refusal} {words_after : List ℕ}
+      → Stores m (registration_storing (capacity words) m r) first words outcome words_after → LeavesApart m (registration_storing (capacity words) m r) first later words later outcome words_after
   unfolding registration_storing registration_cause has_no_room
   registered-there known x =
       let A = rows_of first words in
@@ -98,9 +115,9 @@ module _ (first later : ℕ) (words : List ℕ) (ready : PartsReady first later 
         let l = first-within first later words ready in
         omega (arith, part-capacity first words l, length_inserted m (registration_word r) B k))
 
-    pub registered-apart : {cap : ℕ} {stored : Stored} {part : List ℕ} → cap ≡ capacity words
-        → Stores m (registration_storing (capacity (mid_of (3 * first) (3 * cap - 3 * first) words)) m r) later (mid_of (3 * first) (3 * cap - 3 * first) words) stored part
-        → StoresApart m (registration_storing (capacity words) m r) first later words stored (put_mid (3 * first) (3 * cap - 3 * first) words part)
+    pub registered-apart : {cap : ℕ} {outcome : Result Stored Refusal} {part : List ℕ} → cap ≡ capacity words
+        → Stores m (registration_storing (capacity (mid_of (3 * first) (3 * cap - 3 * first) words)) m r) later (mid_of (3 * first) (3 * cap - 3 * first) words) outcome part
+        → LeavesApart m (registration_storing (capacity words) m r) first later words (meters_after later outcome) outcome (put_mid (3 * first) (3 * cap - 3 * first) words part)
     unfolding registration_storing
     registered-apart e x =
         rw e

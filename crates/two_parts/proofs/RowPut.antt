@@ -7,9 +7,9 @@ use native.Mathlib.Omega.{arith}
 use lib.ListN.{length, get_or, take, drop, length-append}
 use lib.Seq.{take-append-le, drop-drop, drop_at}
 use Rattle.book.specs.Rows.{Row, first_row, rows_of, rows_formed, is_known, words_of, written}
-use Rattle.book.proofs.RowsOf.{first-row, length-rows, take-rows, row-of, length-words}
+use Rattle.book.proofs.RowsOf.{first-row, length-rows, take-rows, row-of, words-of-rows, length-words}
 use Rattle.book.proofs.Written.{written-append, length-written, rows-of-written}
-use Rattle.two_parts.specs.Merge.{row_of, row_put}
+use Rattle.two_parts.specs.Merge.{row_of, row_words, words_put, row_put}
 use Rattle.two_parts.proofs.MergedBack.{Below, below_last, formed-take, known-there}
 
 -- one row more
@@ -67,3 +67,8 @@ module _ (i : ℕ) (r : Row) (words : List ℕ) where
       rw (written-append (rows_of i words) (r ∷ []) words)
       (drop_at (words_of (rows_of i words)) (written (r ∷ []) (drop (3 * length (rows_of i words)) words)) (3 * i) (rw (length-words, length-rows))
       ∙ rw (length-rows, drop-drop 3 (3 * i) words, e))
+
+-- put as three words
+pub row-put : (i : ℕ) (r : Row) (words : List ℕ) → 3 * (i + 1) ≤ length words → words_put (3 * i) (row_words r) words ≡ row_put i r words
+unfolding row_put written words_of
+row-put i r words room = rw (written-append, length-rows, words-of-rows i words (omega arith), drop-drop 3 (3 * i) words)

@@ -6,6 +6,7 @@ use mathlib.Core.List.{List, [], ◌∷◌}
 use native.Mathlib.Omega.{arith}
 use borrow.Author.Tests.{lt-ltb, le-ltb}
 use lib.Dec.{eqb}
+use Rattle.std.specs.Prelude.{Some}
 use lib.ListN.{length}
 use Rattle.book.specs.Rows.{Row, rows_formed, is_known, new_row, with_registration, with_reading}
 use Rattle.book.specs.Helpers.{row_held, held_in}
@@ -65,7 +66,7 @@ held-other m r (x ∷ rows) h =
     (λ b. rw (row_next r x rows b, held-other m r rows h))
     (λ b. rw (row_here r x rows b) (held_next r (x ∷ rows) m h))
 
-pub held-own : (m : ℕ) (r : Row) (rows : List Row) → r.mpan ≡ m → held_in m (with_row r rows) ≡ row_held r.registration r.reading
+pub held-own : (m : ℕ) (r : Row) (rows : List Row) → r.mpan ≡ m → held_in m (with_row r rows) ≡ Some (row_held r.registration r.reading)
 unfolding with_row
 held-own m r [] h = held-here r [] m h
 held-own m r (x ∷ rows) h =

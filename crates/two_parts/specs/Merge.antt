@@ -1,10 +1,17 @@
 -- How the functions that merge the two parts in place speak: the row that stands last of those left, and where it is put.
-use Rattle.std.specs.Prelude.{ℕ, ◌*◌, ◌-◌, ◌≡◌, Bool, ◌&&◌, cond, List, [], ◌∷◌, ◌++◌, ltb, drop}
+use Rattle.std.specs.Prelude.{ℕ, ◌+◌, ◌*◌, ◌-◌, ◌≡◌, Bool, ◌&&◌, cond, List, [], ◌∷◌, ◌++◌, ltb, take, drop}
 use Rattle.book.specs.Rows.{Row, first_row, rows_of, written}
 
 -- row i of a slice
 abbrev pub row_of : ℕ → List ℕ → Row
 row_of i words = first_row (drop (3 * i) words)
+
+abbrev pub row_words : Row → List ℕ
+row_words r = r.mpan ∷ r.registration ∷ r.reading ∷ []
+
+-- a slice with three other words
+abbrev pub words_put : ℕ → List ℕ → List ℕ → List ℕ
+words_put from three words = take from words ++ (three ++ drop (from + 3) words)
 
 -- a slice with another row i
 unfoldable pub row_put : ℕ → Row → List ℕ → List ℕ

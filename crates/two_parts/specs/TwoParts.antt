@@ -1,9 +1,7 @@
 -- Rows in two parts that each rise. While a list of calls is made, the rows of new meters are gathered behind the rows that were
 -- there, and the two parts are merged from time to time: a new row then moves few others, in whatever order meters arrive.
-use Rattle.std.specs.Prelude.{ℕ, ◌+◌, ◌-◌, ◌*◌, ◌≤◌, ◌<◌, ◌≡◌, true, false, cond, List, [], ◌∷◌, ltb, drop}
-use Rattle.book.specs.declared.Stored.{Stored}
+use Rattle.std.specs.Prelude.{ℕ, ◌+◌, ◌*◌, ◌≤◌, ◌≡◌, true, false, cond, List, [], ◌∷◌, ltb, drop}
 use Rattle.book.specs.Rows.{Row, capacity, rows_of, rows_formed, is_known, written}
-use Rattle.book.specs.Helpers.{Storing, Stores}
 
 -- a row put in its place among rows
 unfoldable pub with_row : Row → List Row → List Row
@@ -33,23 +31,3 @@ pub record PartsReady (first later : ℕ) (words : List ℕ) : Type 0 where
   pub first-formed : rows_formed 0 (rows_of first words) ≡ true
   pub later-formed : rows_formed 0 (later_rows first later words) ≡ true
   pub apart : (m : ℕ) → is_known m (later_rows first later words) ≡ true → is_known m (rows_of first words) ≡ false
-
--- what storing in the first part tells, with the rows of the second counted
-abbrev pub stored_first : ℕ → Stored → Stored
-stored_first later stored = record { number = stored.number; meters = later; before = stored.before; after = stored.after }
-
--- what storing in two parts tells, with the rows of the first counted too
-abbrev pub stored_in_both : ℕ → Stored → Stored
-stored_in_both first stored = record { number = stored.number; meters = first + stored.meters; before = stored.before; after = stored.after }
-
--- what storing in two parts leaves: two parts again, and merged they are what it leaves in the rows that they stand for
-pub record StoresApart (m : ℕ) (store : List Row → Storing) (first later : ℕ) (words : List ℕ) (stored : Stored) (words_after : List ℕ) : Type 0 where
-  pub ready : PartsReady first stored.meters words_after
-  pub stores : Stores m store (first + later) (as_one first later words) (stored_in_both first stored) (as_one first stored.meters words_after)
-
--- what making room in the second part leaves, for rows that are `meters` in both: the same rows merged, and a second part that has room for one more
-pub record HasRoom (first meters : ℕ) (words : List ℕ) (first_after : ℕ) (words_after : List ℕ) : Type 0 where
-  pub within : first_after ≤ meters
-  pub ready : PartsReady first_after (meters - first_after) words_after
-  pub same : as_one first_after (meters - first_after) words_after ≡ as_one first (meters - first) words
-  pub room : meters - first_after < later_most

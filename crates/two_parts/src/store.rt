@@ -1,106 +1,114 @@
 // Registrations and readings stored in rows in two parts.
-ghost use Rattle.std.specs.Prelude.{◌≡◌};
+ghost use Rattle.std.specs.Prelude.{◌≡◌, ◌+◌, ◌⊎◌};
 ghost use Rattle.book.specs.Rows.{capacity, rows_of};
 ghost use Rattle.book.specs.Helpers.{place_in, registration_storing, reading_storing};
-ghost use Rattle.two_parts.specs.TwoParts.{later_rows, PartsReady, stored_first, StoresApart};
+ghost use Rattle.two_parts.specs.TwoParts.{later_rows};
+ghost use Rattle.two_parts.specs.Apart.{counted, meters_after, StoresApart};
 
-use crate::Recorded;
+use crate::merge::merge_rows;
+use crate::{LATER_MAX, Parts};
+use book::Stored;
 use book::rows::{find, find_near, row_capacity};
 use book::store::{registration_asked, store_reading, store_registration};
-use book::{Place, Stored};
+use refusals::Refusal;
 use words::{Reading, Registration};
 
-// What storing in the first part gives, with the rows of the second part counted, which stay as many.
-fn stored_first(later: usize, stored: Stored) -> Stored
-    ensures { result ≡ stored_first later stored }
+// What storing in one part tells, with the meters of both parts.
+fn counted(outcome: Result<Stored, Refusal>, meters: usize) -> Result<Stored, Refusal>
+    ensures { result ≡ counted meters outcome }
 {
-    let before = stored.before;
-    let after = stored.after;
-    Stored {
-        number: stored.number,
-        meters: later,
-        before,
-        after,
-    }
+    outcome.map(|stored| Stored { meters, ..stored })
 }
 
-// Where a meter's row stands or is to stand among those of the second part, and whether it is there.
-fn find_later(first: usize, later: usize, rows: &[u64], mpan: u64) -> Place
-    requires { PartsReady first later rows.now }
-    ensures { result ≡ place_in mpan (later_rows first later rows.now) }
+// How many rows a part has after storing in it, where it had so many before.
+fn rows_after(rows: usize, outcome: &Result<Stored, Refusal>) -> usize
+    ensures { result ≡ meters_after rows outcome.now }
 {
-    let start = 3 * first;
-    find(&rows[start..], later, mpan)
+    outcome.map_or(rows, |stored| stored.meters)
 }
 
-// Stores or replaces a meter's registration; the answer's meters are the rows of the second part then. A meter of the first
-// part keeps its place, and any other is the second part's. That part is lent up to the book's capacity, so it is full
-// exactly when the book is.
-pub fn register_apart(
-    first: usize,
-    later: usize,
-    rows: &mut [u64],
-    mpan: u64,
-    registration: Registration,
-) -> Stored
-    requires { PartsReady first later rows.old }
-    ensures { StoresApart mpan (registration_storing (capacity rows.old) mpan registration) first later rows.old result rows.new }
-{
-    let asked = registration_asked(mpan, registration);
-    let place = find(rows, first, mpan);
-    if place.known {
-        let stored = store_registration(first, place, rows, mpan, asked);
-        return stored_first(later, stored);
+impl Parts<'_> {
+    // How many meters have a row in either part.
+    fn meters(&self) -> usize
+        ensures { result ≡ self.now.first + self.now.later }
+    {
+        self.first + self.later
     }
-    let place = find_later(first, later, rows, mpan);
-    let start = 3 * first;
-    let end = 3 * row_capacity(rows);
-    store_registration(later, place, &mut rows[start..end], mpan, asked)
-}
 
-// Stores a meter's reading if its issue is above the one held, where a search of the first part gave `held`.
-fn reading_found(
-    first: usize,
-    later: usize,
-    held: Place,
-    rows: &mut [u64],
-    mpan: u64,
-    reading: Reading,
-) -> Stored
-    requires fact_1 { PartsReady first later rows.old }
-    requires fact_2 { held ≡ place_in mpan (rows_of first rows.old) }
-    ensures { StoresApart mpan (reading_storing mpan reading) first later rows.old result rows.new }
-{
-    if held.known {
-        let stored = store_reading(first, held, rows, mpan, reading);
-        return stored_first(later, stored);
+    // Where a meter's row stands or is to stand among those of the first part.
+    fn find_first(&self, mpan: u64) -> Result<usize, usize>
+        ensures { result ≡ place_in mpan (rows_of self.now.first self.now.rows.now) }
+    {
+        find_near(self.rows, self.first, mpan, self.near)
     }
-    let place = find_later(first, later, rows, mpan);
-    let start = 3 * first;
-    let end = 3 * row_capacity(rows);
-    store_reading(later, place, &mut rows[start..end], mpan, reading)
-}
 
-// Stores a meter's reading if its issue is above the one held. Row `near` is tried before the search. Nothing is said of the row to
-// try next, since any is right.
-pub fn reading_apart(
-    first: usize,
-    later: usize,
-    near: usize,
-    rows: &mut [u64],
-    mpan: u64,
-    reading: Reading,
-) -> Recorded
-    requires { PartsReady first later rows.old }
-    ensures { StoresApart mpan (reading_storing mpan reading) first later rows.old result.stored rows.new }
-{
-    let held = find_near(rows, first, mpan, near);
-    let stored = reading_found(first, later, held, rows, mpan, reading);
-    if !held.known {
-        return Recorded { stored, near };
+    // Where a meter's row stands or is to stand among those of the second part.
+    fn find_later(&self, mpan: u64) -> Result<usize, usize>
+        ensures { result ≡ place_in mpan (later_rows self.now.first self.now.later self.now.rows.now) }
+    {
+        let start = 3 * self.first;
+        find(&self.rows[start..], self.later, mpan)
     }
-    Recorded {
-        stored,
-        near: held.index + 1,
+
+    // How many rows the slice has room for.
+    fn capacity(&self) -> usize
+        ensures { result ≡ capacity self.now.rows.now }
+    {
+        row_capacity(self.rows)
+    }
+
+    // Stores or replaces a meter's registration. A meter of the first part keeps its place, and any other is the second part's. That
+    // part is lent up to the book's capacity, so it is full exactly when the book is. Where it has its most rows, the parts are merged.
+    pub fn register(&mut self, mpan: u64, registration: Registration) -> Result<Stored, Refusal>
+        ensures border { (self.new.first ≡ self.old.first) ⊎ (self.new.later ≡ 0) }
+        ensures stored { StoresApart mpan (registration_storing (capacity self.old.rows.now) mpan registration) self.old self.new result }
+    {
+        let word = registration_asked(mpan, registration)?;
+        let first = self.first;
+        let place = self.find_first(mpan);
+        if place.is_ok() {
+            let meters = self.meters();
+            let outcome = store_registration(first, place, self.rows, mpan, word);
+            return counted(outcome, meters);
+        }
+        let place = self.find_later(mpan);
+        let start = 3 * first;
+        let end = 3 * self.capacity();
+        let rows = &mut *self.rows;
+        let part = &mut rows[start..end];
+        let outcome = store_registration(self.later, place, part, mpan, word);
+        let later = rows_after(self.later, &outcome);
+        let meters = first + later;
+        if later < LATER_MAX {
+            self.later = later;
+            return counted(outcome, meters);
+        }
+        // Kept: the lines of `merge` stand here, since it takes parts whose second has fewer rows than this one has now.
+        merge_rows(rows, first, later);
+        self.first = meters;
+        self.later = 0;
+        counted(outcome, meters)
+    }
+
+    // Stores a meter's reading if its issue is above the one held. Nothing is said of the row to try first the next time, since any is right.
+    // Kept: it goes by the parts as `register` does; a closure for what book stores, lent a part, takes a contract longer than what it spares.
+    pub fn record(&mut self, mpan: u64, reading: Reading) -> Result<Stored, Refusal>
+        ensures border { self.new.first ≡ self.old.first }
+        ensures stored { StoresApart mpan (reading_storing mpan reading) self.old self.new result }
+    {
+        let meters = self.meters();
+        let place = self.find_first(mpan);
+        if let Ok(index) = place {
+            self.near = index + 1;
+            let outcome = store_reading(self.first, place, self.rows, mpan, reading);
+            return counted(outcome, meters);
+        }
+        let place = self.find_later(mpan);
+        let start = 3 * self.first;
+        let end = 3 * self.capacity();
+        let part = &mut self.rows[start..end];
+        let outcome = store_reading(self.later, place, part, mpan, reading);
+        self.later = rows_after(self.later, &outcome);
+        counted(outcome, self.meters())
     }
 }

@@ -51,3 +51,6 @@ unfolding reading_in_range
 reading-bounds r h =
     let k = simp and-eq-true_iff at h in
     omega (arith, leb-true)
+
+-- the two, for a function that packs
+pub ruleset bounds = (registration-bounds, reading-bounds)

@@ -1,12 +1,15 @@
-// The words of a row. A registration and a reading are packed into a word, and taken out of it, by shifts and masks. Beside that, one
-// number written over the start of a slice.
+// The words of a row. A registration and a reading are packed into a word, and taken out of it, by shifts and masks.
 #![tactic(auto)]
 
-ghost use Rattle.std.specs.Prelude.{◌≡◌, true, ◌++◌, ◌+◌, ◌*◌, ◌^◌, ◌≤◌, ◌<◌, length, drop, replicate};
+ghost use Rattle.std.specs.Prelude.{◌≡◌, true, ◌+◌, ◌*◌, ◌^◌, ◌≤◌};
 ghost use Rattle.words.specs.Limits.{direction_most, network_most};
 ghost use Rattle.words.specs.Mpan.{is_mpan};
-ghost use Rattle.words.specs.Registration.{bit_field, segment_of, direction_of, status_of, category_of, llf_of, network_of, tariff_of, unit_of, registration_of, registration_word, registration_in_range, is_registration};
-ghost use Rattle.words.specs.Reading.{consumption_of, quality_of, issue_of, reading_of, reading_word, reading_in_range, quality_allowed, is_actual, is_reading};
+ghost use Rattle.words.specs.Registration.{direction_of, network_of, unit_of, registration_of, registration_word, registration_in_range, is_registration};
+ghost use Rattle.words.specs.Reading.{reading_of, reading_word, reading_in_range, quality_allowed, is_actual, is_reading};
+
+pub mod field;
+
+use field::Field;
 
 pub const MPAN_MIN: u64 = 1_000_000_000_000;
 
@@ -16,6 +19,9 @@ pub const MPAN_MAX: u64 = 9_999_999_999_999;
 pub const NO_READING: u64 = 0;
 
 // How a meter is registered, as numbers of the full width, so that one out of range is seen and never cut.
+// Kept: `flag` and `additional` are two numbers, and no Option, since a C program passes them, and any number that it passes has to be
+// seen: a unit under a flag that is not set is refused.
+// Kept: the segment, the direction and the status are numbers, and no enums, for the same reason.
 #[repr(C)]
 #[derive(Clone, Copy)]
 pub struct Registration {
@@ -32,6 +38,7 @@ pub struct Registration {
 }
 
 // A reading: its issue number, its quality code and the consumption in Wh.
+// Kept: the quality is a number, and no enum, since a C program passes it, and a code that is not in use has to be seen and refused.
 #[repr(C)]
 #[derive(Clone, Copy)]
 pub struct Reading {
@@ -41,115 +48,40 @@ pub struct Reading {
 }
 
 // Whether m is in the range of an MPAN.
+#[tactic(auto, unfolding(crate::specs::Mpan::is_mpan))]
 pub fn is_mpan(m: u64) -> bool
     ensures { result ≡ is_mpan m }
 {
     (MPAN_MIN <= m) & (m <= MPAN_MAX)
 }
 
-// The number in `width` bits of w, from bit `at`.
-fn bits(w: u64, at: u64, width: u64) -> u64
-    requires fact_1 { at < 64 }
-    requires fact_2 { width < 64 }
-    ensures { result ≡ bit_field w at width }
-{
-    (w >> at) & ((1 << width) - 1)
-}
-
-// The word w, which has nothing from bit `at` on, with x put there.
-fn put(w: u64, x: u64, at: u64) -> u64
-    requires fact_1 { at < 64 }
-    requires fact_2 { w < 2 ^ at }
-    requires fact_3 { x * 2 ^ at < 2 ^ 64 }
-    ensures { result ≡ w + x * 2 ^ at }
-{
-    w | (x << at)
-}
-
-// The first `count` numbers of a slice replaced by one number.
-pub fn fill(numbers: &mut [u64], count: usize, number: u64)
-    requires { count ≤ length numbers.old }
-    ensures { numbers.new ≡ replicate count number ++ drop count numbers.old }
-{
-    let mut i = 0;
-    while i < count {
-        numbers[i] = number;
-        i += 1;
-    }
-}
-
-pub fn segment(w: u64) -> u64
-    ensures { result ≡ segment_of w }
-{
-    bits(w, 0, 2)
-}
-
-pub fn direction(w: u64) -> u64
-    ensures { result ≡ direction_of w }
-{
-    bits(w, 2, 1)
-}
-
-pub fn status(w: u64) -> u64
-    ensures { result ≡ status_of w }
-{
-    bits(w, 3, 2)
-}
-
 // The unit that a meter's energy goes to: the additional one if there is one, else the base one.
+#[tactic(auto, unfolding(crate::specs::Registration::unit_of))]
 pub fn unit(w: u64) -> u64
     ensures { result ≡ unit_of w }
 {
-    if bits(w, 10, 1) == 1 {
-        bits(w, 11, 5)
+    if Field::FLAG.of(w) == 1 {
+        Field::ADDITIONAL.of(w)
     } else {
-        bits(w, 5, 5)
+        Field::BASE.of(w)
     }
 }
-
-pub fn category(w: u64) -> u64
-    ensures { result ≡ category_of w }
-{
-    bits(w, 16, 6)
-}
-
-pub fn llf(w: u64) -> u64
-    ensures { result ≡ llf_of w }
-{
-    bits(w, 22, 11)
-}
-
-// The embedded network of a meter, 0 if it is on none.
-pub fn network(w: u64) -> u64
-    ensures { result ≡ network_of w }
-{
-    bits(w, 33, 6)
-}
-
-pub fn tariff(w: u64) -> u64
-    ensures { result ≡ tariff_of w }
-{
-    bits(w, 39, 10)
-}
-
-// The bits of word 1 that hold the direction and the network.
-const CHARGED_BITS: u64 = 541_165_879_300;
 
 // The direction and the network of a word, each at its place, and 0 elsewhere. A pass over all rows compares the two at once.
 pub fn charged(w: u64) -> u64
     ensures { result ≡ direction_of w * 2 ^ 2 + network_of w * 2 ^ 33 }
 {
-    w & CHARGED_BITS
+    charged_to(Field::DIRECTION.of(w), Field::NETWORK.of(w))
 }
 
 // The same for a direction and a network by themselves.
 pub fn charged_to(direction: u64, network: u64) -> u64
-    requires fact_1 { direction ≤ direction_most }
-    requires fact_2 { network ≤ network_most }
+    requires direction_bound { direction ≤ direction_most }
+    requires network_bound { network ≤ network_most }
     ensures { result ≡ direction * 2 ^ 2 + network * 2 ^ 33 }
 {
-    let placed = put(0, direction, 2);
-    put(placed, network, 33)
+    let placed = Field::DIRECTION.put(0, direction);
+    Field::NETWORK.put(placed, network)
 }
 
 impl Registration {
@@ -172,6 +104,7 @@ impl Registration {
     pub const TARIFF_MAX: u64 = 1_023;
 
     // Whether each field is in its range.
+    #[tactic(auto, unfolding(crate::specs::Registration::registration_in_range))]
     pub fn in_range(self) -> bool
         ensures { result ≡ registration_in_range self }
     {
@@ -189,37 +122,40 @@ impl Registration {
     }
 
     // The word of these fields.
+    #[tactic(auto, using(crate::proofs::Ranges::bounds), unfolding(crate::specs::Registration::registration_word))]
     pub fn pack(self) -> u64
         requires { registration_in_range self ≡ true }
         ensures { result ≡ registration_word self }
     {
         // Each name says up to which field the word is filled.
-        let to_direction = put(self.segment, self.direction, 2);
-        let to_status = put(to_direction, self.status, 3);
-        let to_base = put(to_status, self.base, 5);
-        let to_flag = put(to_base, self.flag, 10);
-        let to_additional = put(to_flag, self.additional, 11);
-        let to_category = put(to_additional, self.category, 16);
-        let to_llf = put(to_category, self.llf, 22);
-        let to_network = put(to_llf, self.network, 33);
-        put(to_network, self.tariff, 39)
+        let to_direction = Field::DIRECTION.put(self.segment, self.direction);
+        let to_status = Field::STATUS.put(to_direction, self.status);
+        let to_base = Field::BASE.put(to_status, self.base);
+        let to_flag = Field::FLAG.put(to_base, self.flag);
+        let to_additional = Field::ADDITIONAL.put(to_flag, self.additional);
+        let to_category = Field::CATEGORY.put(to_additional, self.category);
+        let to_llf = Field::LLF.put(to_category, self.llf);
+        let to_network = Field::NETWORK.put(to_llf, self.network);
+        Field::TARIFF.put(to_network, self.tariff)
     }
 
     // The fields of a word.
+    // Kept: no `From<u64>`, since this is the other half of `pack`, which is asked only of fields in range and so is no `From` either.
+    #[tactic(auto, unfolding(crate::specs::Registration::registration_of))]
     pub fn unpack(w: u64) -> Registration
         ensures { result ≡ registration_of w }
     {
         Registration {
-            segment: segment(w),
-            direction: direction(w),
-            status: status(w),
-            base: bits(w, 5, 5),
-            flag: bits(w, 10, 1),
-            additional: bits(w, 11, 5),
-            category: category(w),
-            llf: llf(w),
-            network: network(w),
-            tariff: tariff(w),
+            segment: Field::SEGMENT.of(w),
+            direction: Field::DIRECTION.of(w),
+            status: Field::STATUS.of(w),
+            base: Field::BASE.of(w),
+            flag: Field::FLAG.of(w),
+            additional: Field::ADDITIONAL.of(w),
+            category: Field::CATEGORY.of(w),
+            llf: Field::LLF.of(w),
+            network: Field::NETWORK.of(w),
+            tariff: Field::TARIFF.of(w),
         }
     }
 }
@@ -237,37 +173,17 @@ pub fn is_registration(w: u64) -> bool
     if w >> 49 != 0 {
         return false;
     }
-    let low = bits(w, 0, 5);
+    let low = Field::BELOW_BASE.of(w);
     if (low & (low >> 1)) & 9 != 0 {
         return false;
     }
-    let flagged = bits(w, 10, 6);
+    let flagged = Field::FLAG_AND_ADDITIONAL.of(w);
     let allowed = ADDITIONAL_FIELDS >> flagged;
     if allowed % 2 == 0 {
         return false;
     }
-    let llf = bits(w, 22, 11);
+    let llf = Field::LLF.of(w);
     (Registration::LLF_MIN <= llf) & (llf <= Registration::LLF_MAX)
-}
-
-// The consumption in a reading's word, in Wh.
-pub fn consumption(w: u64) -> u64
-    ensures { result ≡ consumption_of w }
-{
-    bits(w, 0, 24)
-}
-
-pub fn quality(w: u64) -> u64
-    ensures { result ≡ quality_of w }
-{
-    bits(w, 24, 5)
-}
-
-// The issue number, which is 0 where there is no reading.
-pub fn issue(w: u64) -> u64
-    ensures { result ≡ issue_of w }
-{
-    bits(w, 32, 32)
 }
 
 // The actual codes, a bit for each: those up to AAE3, E2 and E6.
@@ -283,7 +199,7 @@ pub fn is_actual(q: u64) -> bool
     if q > 31 {
         return false;
     }
-    bits(ACTUAL_CODES, q, 1) == 1
+    (ACTUAL_CODES >> q) % 2 == 1
 }
 
 impl Reading {
@@ -296,6 +212,7 @@ impl Reading {
     pub const ISSUE_MAX: u64 = 4_294_967_295;
 
     // Quality codes: the last of A to AAE3, three of E0 to E9, and the first and the last ZE.
+    // Kept: numbers, as the quality of a reading is one.
     pub const QUALITY_AAE3: u64 = 6;
 
     pub const QUALITY_E2: u64 = 9;
@@ -309,6 +226,7 @@ impl Reading {
     pub const QUALITY_ZE3: u64 = 20;
 
     // Whether each field is in its range.
+    #[tactic(auto, unfolding(crate::specs::Reading::reading_in_range))]
     pub fn in_range(self) -> bool
         ensures { result ≡ reading_in_range self }
     {
@@ -319,6 +237,7 @@ impl Reading {
     }
 
     // Whether the code is in use here, and has no energy if it is a ZE.
+    #[tactic(auto, unfolding(crate::specs::Reading::quality_allowed))]
     pub fn allowed(self) -> bool
         ensures { result ≡ quality_allowed self }
     {
@@ -328,33 +247,37 @@ impl Reading {
     }
 
     // The word of these fields.
+    #[tactic(auto, using(crate::proofs::Ranges::bounds), unfolding(crate::specs::Reading::reading_word))]
     pub fn pack(self) -> u64
         requires { reading_in_range self ≡ true }
         ensures { result ≡ reading_word self }
     {
-        let to_quality = put(self.consumption, self.quality, 24);
-        put(to_quality, self.issue, 32)
+        let to_quality = Field::QUALITY.put(self.consumption, self.quality);
+        Field::ISSUE.put(to_quality, self.issue)
     }
 
     // The fields of a word.
+    // Kept: no `From<u64>`, as with a registration.
+    #[tactic(auto, unfolding(crate::specs::Reading::reading_of))]
     pub fn unpack(w: u64) -> Reading
         ensures { result ≡ reading_of w }
     {
         Reading {
-            issue: issue(w),
-            quality: quality(w),
-            consumption: consumption(w),
+            issue: Field::ISSUE.of(w),
+            quality: Field::QUALITY.of(w),
+            consumption: Field::CONSUMPTION.of(w),
         }
     }
 }
 
 // Whether w is a well-formed word 2: no reading, or one that could have been stored. A test of all rows is mostly this test, so
 // the words of no reading and of the codes up to E6, with any energy, pass first; the other words are tested field by field.
+#[tactic(auto, unfolding(crate::specs::Reading::is_reading))]
 pub fn is_reading(w: u64) -> bool
     ensures { result ≡ is_reading w }
 {
-    let code = bits(w, 24, 8);
-    let wh = bits(w, 0, 24);
+    let code = Field::QUALITY_AND_RESERVED.of(w);
+    let wh = Field::CONSUMPTION.of(w);
     if (code <= Reading::QUALITY_E6)
         & (wh <= Reading::CONSUMPTION_MAX)
         & ((w >> 32 != 0) | (w == NO_READING))
@@ -362,5 +285,5 @@ pub fn is_reading(w: u64) -> bool
         return true;
     }
     let r = Reading::unpack(w);
-    (w == NO_READING) | ((bits(w, 29, 3) == 0) & r.in_range() & r.allowed())
+    (w == NO_READING) | ((Field::RESERVED.of(w) == 0) & r.in_range() & r.allowed())
 }

@@ -1,24 +1,20 @@
 -- `floor_quotient` meets its contract, by the sign of the processor's remainder.
 use mathlib.Core.Path.{◌≡◌, sym, ◌∙◌}
 use Prim.Native.Nat.{ℕ, ◌<◌}
-use lib.Dec.{ltb→lt}
-use lib.IntN.{ℤ, pos, negsuc, nat_abs, ◌+ℤ◌, ◌-ℤ◌}
+use lib.IntN.{ℤ, pos, nat_abs, ◌+ℤ◌, ◌-ℤ◌}
 use lib.Signed.{◌≤ℤ◌, ◌<ℤ◌, quot_z, rem_z, pos-nat_abs, yes_non_neg}
 use mir.Syntax.{w64}
 use mir.Val.{SFits, of_z, to_z}
 use mir.ValLaws.{to_z-of_z}
+use Rattle.integers.proofs.Linear.{linear}
 use Rattle.integers.proofs.Order.{lt-true, lt-false, le_of_lt}
 use Rattle.integers.proofs.Size.{size-positive}
-use Rattle.integers.proofs.Fit.{cast_fits}
 use Rattle.integers.proofs.Cut.{cut_fits, left-fits, cut-above, cut_below, one_less_fits, raised-low, raised-fits}
 use Rattle.integers.proofs.floor_quotient.Goals as goal
-
-positive-bits : (d : ℤ) → pos 0 <ℤ d → 0 < of_z w64 d
-positive-bits (pos n) p = ltb→lt 0 n p.lt
-positive-bits (negsuc n) p = absurd p.lt
+use Rattle.integers.proofs.floor_quotient.Goals.{Start}
 
 -- what the code divides, and what it holds then
-module _ (c : goal.Start) where
+module _ (c : Start) where
   abbrev x : ℤ
   x = c.args.x
 
@@ -36,9 +32,6 @@ module _ (c : goal.Start) where
 
   read-d : to_z w64 (of_z w64 c.args.d) ≡ pos d
   read-d = to_z-of_z w64 _ c.ranges.d ∙ d-is
-
-  divides : (0 < of_z w64 c.args.d) × SFits w64 (quot_z (to_z w64 (of_z w64 x)) (to_z w64 (of_z w64 c.args.d)))
-  divides = (positive-bits _ c.requires, rw (read-x, read-d) (cut_fits x d c.ranges.x))
 
   quotient_is : to_z w64 (of_z w64 (quot_z (to_z w64 (of_z w64 x)) (to_z w64 (of_z w64 c.args.d)))) ≡ quot_z x (pos d)
   quotient_is = rw (read-x, read-d) (to_z-of_z w64 _ (cut_fits x d c.ranges.x))
@@ -61,34 +54,18 @@ negative c = lt-true _ _ (rw (remainder_is c.before) at c.if-remainder-lt0.true)
 nonnegative : (c : goal.Else-remainder-lt0) → pos 0 ≤ℤ rem_z (x c.before) (pos (d c.before))
 nonnegative c = lt-false _ _ (rw (remainder_is c.before) at c.if-remainder-lt0.false)
 
-pub nonzero_div-quotient : goal.nonzero_div-quotient
-nonzero_div-quotient c = divides c
-
-pub nonzero_rem-remainder : goal.nonzero_rem-remainder
-nonzero_rem-remainder c = divides c
-
-pub overflow_sub-result : goal.overflow_sub-result
-overflow_sub-result c = rw (quotient_is c.before) (less c.before (negative c))
-
-pub overflow_add-result : goal.overflow_add-result
-overflow_add-result c = rw (remainder_is c.before, read-d c.before) (raised c.before (negative c))
-
 pub overflow_cast-result : goal.overflow_cast-result
 overflow_cast-result c =
     let s = c.before in
     let f = raised s (negative c) in
-    rw (remainder_is s, read-d s, to_z-of_z w64 _ f) (cast_fits _ f (raised-low (x s) (d s) (positive s) (negative c)))
+    let low = raised-low (x s) (d s) (positive s) (negative c) in
+    rw (remainder_is s, read-d s, to_z-of_z w64 _ f) (yes_non_neg low, omega linear)
 
 pub returns-then-remainder-lt0 : goal.returns-then-remainder-lt0
 returns-then-remainder-lt0 c =
     let s = c.before in
     rw (quotient_is s, remainder_is s, read-d s, to_z-of_z w64 _ (less s (negative c)), to_z-of_z w64 _ (raised s (negative c)))
     (cut_below (x s) (d s) (positive s) (negative c))
-
-pub overflow_cast-result-2 : goal.overflow_cast-result-2
-overflow_cast-result-2 c =
-    let s = c.before in
-    rw (remainder_is s) (cast_fits _ (left-fits (x s) (pos (d s)) s.ranges.x) (nonnegative c))
 
 pub returns : goal.returns
 returns c =

@@ -1,21 +1,21 @@
 -- `nearest_wh` meets its contract, by the remainder: from half a Wh on it adds one Wh of its sign, whose thousandths go from what is dropped. Assumes nothing.
-use Prim.Native.Nat.{ℕ, suc, ◌+◌, ◌*◌, ◌/◌, ◌%◌, ◌^◌, ◌≤◌, ◌<◌}
+use Prim.Native.Nat.{ℕ, suc, ◌*◌, ◌/◌, ◌%◌, ◌^◌, ◌≤◌, ◌<◌}
 use mathlib.Core.Path.{◌≡◌, ap₂, ◌∙◌}
 use native.Mathlib.Omega.{arith}
 use native.Mathlib.Nat.{le_refl}
 use lib.Dec.{lit<}
-use lib.IntN.{ℤ, pos, negsuc, neg_ℤ, nat_abs, ◌+ℤ◌, ◌-ℤ◌, ◌*ℤ◌, *ℤ_comm}
+use lib.IntN.{ℤ, pos, negsuc, nat_abs, ◌+ℤ◌, ◌-ℤ◌, ◌*ℤ◌, *ℤ_comm}
 use lib.Signed.{◌≤ℤ◌, ◌<ℤ◌, quot_z, rem_z, nat_abs-le}
 use mir.Syntax.{w64}
 use mir.Val.{SFits, to_z, of_z}
 use mir.ValLaws.{to_z-of_z}
 use Rattle.integers.specs.Rounding.{nearest_wh, dropped_thousandths}
-use Rattle.integers.proofs.Linear.{linear, plus, minus, opposite}
+use Rattle.integers.proofs.Linear.{linear}
 use Rattle.integers.proofs.Ring.{times-plus}
 use Rattle.integers.proofs.Order.{lt-true, lt-false}
 use Rattle.integers.proofs.Size.{times-bound}
-use Rattle.integers.proofs.Fit.{fit, Held, held, plus-fits, plus-held, minus-fits, minus-held}
-use Rattle.integers.proofs.Cut.{cut-whole, cut_left, cut-size, cut_fits}
+use Rattle.integers.proofs.Fit.{Held, held, plus-held, minus-held}
+use Rattle.integers.proofs.Cut.{cut-whole, cut_left, cut-size}
 use Rattle.integers.proofs.nearest_wh.Goals as goal
 use Rattle.integers.proofs.nearest_wh.Goals.{then-rest-ltminus499, else-rest-ltminus499+then-rest-gt499, else-rest-ltminus499+else-rest-gt499}
 
@@ -32,19 +32,19 @@ one_down (pos n) h = absurd (omega linear)
 one_down (negsuc n) h =
     let q = pos (suc n / 1000) in
     let r = pos (suc n % 1000) in
-    omega (linear, opposite q, opposite r, minus (neg_ℤ q) (pos 1), opposite (pos ((suc n + 500) / 1000)))
+    omega linear
 
 one_up : (t : ℤ) → pos 499 <ℤ rest t → whole t +ℤ pos 1 ≡ nearest_wh t
 unfolding nearest_wh
-one_up (pos n) h = omega (linear, plus (pos (n / 1000)) (pos 1))
-one_up (negsuc n) h = absurd (omega (linear, opposite (pos (suc n % 1000))))
+one_up (pos n) h = omega linear
+one_up (negsuc n) h = absurd (omega linear)
 
 none_more : (t : ℤ) → negsuc 498 ≤ℤ rest t → rest t ≤ℤ pos 499 → whole t +ℤ pos 0 ≡ nearest_wh t
 unfolding nearest_wh
-none_more (pos n) h k = omega (linear, plus (pos (n / 1000)) (pos 0))
+none_more (pos n) h k = omega linear
 none_more (negsuc n) h k =
     let q = pos (suc n / 1000) in
-    omega (linear, opposite q, plus (neg_ℤ q) (pos 0), opposite (pos (suc n % 1000)), opposite (pos ((suc n + 500) / 1000)))
+    omega linear
 
 -- where it adds e Wh, their thousandths go from the remainder, and what is left of it is dropped
 left_over : (t e : ℤ) → whole t +ℤ e ≡ nearest_wh t → rest t -ℤ pos 1000 *ℤ e ≡ dropped_thousandths t
@@ -53,7 +53,7 @@ left_over t e h =
     let q = whole t *ℤ pos 1000 in
     let a = pos 1000 *ℤ e in
     rw (← h, times-plus (pos 1000) (whole t) e, *ℤ_comm (pos 1000) (whole t))
-    (omega (linear, cut-whole t 1000, plus q (rest t), minus (rest t) a, minus t (q +ℤ a), plus q a))
+    (omega (linear, cut-whole t 1000))
 
 -- how large they are
 whole-size : (t : ℤ) → SFits w64 t → nat_abs (whole t) ≤ 9223372036854776
@@ -66,9 +66,6 @@ rest-size t = omega (arith, cut_left t 1000 (lit< tt))
 module _ (t : ℤ) (f : SFits w64 t) where
   read : to_z w64 (of_z w64 t) ≡ t
   read = to_z-of_z w64 t f
-
-  divides : SFits w64 (quot_z (to_z w64 (of_z w64 t)) (pos 1000))
-  divides = rw read (cut_fits t 1000 f)
 
   whole-held : Held (of_z w64 (quot_z (to_z w64 (of_z w64 t)) (pos 1000))) (whole t) 9223372036854776
   whole-held = rw read (held (whole t) 9223372036854776 (whole-size t f) (lit< tt))
@@ -101,26 +98,8 @@ module _ {a : ℕ} {e : ℤ} (h : Held a e 1) (n : ℕ) (small : n * 1 < 2 ^ 63)
   off-bound : nat_abs (pos n *ℤ e) ≤ n * 1
   off-bound = times-bound (pos n) e (le_refl n) h.bound
 
-  off-fits : SFits w64 (pos n *ℤ to_z w64 a)
-  off-fits = rw h.reads (fit (pos n *ℤ e) (n * 1) off-bound small)
-
   off-held : Held (of_z w64 (pos n *ℤ to_z w64 a)) (pos n *ℤ e) (n * 1)
   off-held = rw h.reads (held (pos n *ℤ e) (n * 1) off-bound small)
-
-pub nonzero_div-whole : goal.nonzero_div-whole
-nonzero_div-whole c = (lit< tt, divides c.args.thousandths c.ranges.thousandths)
-
-pub nonzero_rem-rest : goal.nonzero_rem-rest
-nonzero_rem-rest c = (lit< tt, divides c.args.thousandths c.ranges.thousandths)
-
-pub overflow_add-result : goal.overflow_add-result
-overflow_add-result c = plus-fits (whole-held c.args.thousandths c.ranges.thousandths) (adds c).holds (lit< tt)
-
-pub overflow_mul-result : goal.overflow_mul-result
-overflow_mul-result c = off-fits (adds c).holds _ (lit< tt)
-
-pub overflow_sub-result : goal.overflow_sub-result
-overflow_sub-result c = minus-fits (rest-held c.args.thousandths c.ranges.thousandths) (off-held (adds c).holds _ (lit< tt)) (lit< tt)
 
 pub returns : goal.returns
 returns c =

@@ -15,7 +15,7 @@ use Rattle.integers.specs.Helpers.{DigitArguments}
 use Rattle.integers.proofs.Linear.{linear}
 use Rattle.integers.proofs.Ring.{plus_times, times-exchange}
 use Rattle.integers.proofs.Size.{plus-bound}
-use Rattle.integers.proofs.Fit.{Held, held, held-literal, plus-fits, plus-held, times-fits, times-held}
+use Rattle.integers.proofs.Fit.{Held, held, held-literal, plus-fits, plus-held, times-held}
 use Rattle.integers.proofs.Floor.{size-floor, floor-shift, fraction-shift}
 use Rattle.integers.proofs.next_digit.Goals as goal
 
@@ -68,17 +68,8 @@ step_is : {done r : Quotient} {digit : ℕ} {a w : ℤ} (ok : DigitArguments don
     → r ≡ quotient_of (left ok) (nat_abs w)
 step_is ok f e = rw ((plus-held (shifted-held ok) (product-held ok) (lit< tt)).reads, to_z-of_z w64 _ f) at e
 
-pub overflow_mul-left : goal.overflow_mul-left
-overflow_mul-left c = times-fits (fraction-held c.requires) (held-literal 2048 (lit< tt)) (lit< tt)
-
-pub overflow_mul-left-2 : goal.overflow_mul-left-2
-overflow_mul-left-2 c = times-fits (digit-held c.requires) (a-held c.requires) (lit< tt)
-
 pub overflow_add-left : goal.overflow_add-left
 overflow_add-left c = plus-fits (shifted-held c.requires) (product-held c.requires) (lit< tt)
-
-pub overflow_mul-result : goal.overflow_mul-result
-overflow_mul-result c = times-fits (floor-held c.requires) (held-literal 2048 (lit< tt)) (lit< tt)
 
 pub overflow_add-result : goal.overflow_add-result
 overflow_add-result c =

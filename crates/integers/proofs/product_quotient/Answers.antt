@@ -6,7 +6,7 @@ use lib.IntN.{ℤ, pos, negsuc, nat_abs, ◌+ℤ◌, ◌*ℤ◌, zero-*ℤ}
 use lib.Pow.{shr-shr, shr_le}
 use lib.Signed.{◌<ℤ◌}
 use mir.Syntax.{w64}
-use mir.Val.{to_z, of_z}
+use mir.Val.{SFits, to_z, of_z}
 use mir.ValLaws.{to_z-of_z}
 use Rattle.integers.specs.declared.Quotient.{Quotient}
 use Rattle.integers.specs.Quotient.{floor_of, fraction_of, quotient_of}
@@ -57,25 +57,16 @@ module _ {m : ℕ} {a w : ℤ} (args : ShareArguments (pos m) a w) (i : ℕ) whe
         rw (whole_before _ w args.w-positive e, k, ← (shr-shr m (11 * (i - 1)) 11), with-digit (m / 2 ^ (11 * (i - 1))) a)
 
 -- the arguments as the code reads them
-read : (c : goal.Start) → ShareArguments (pos c.args.m) (to_z w64 (of_z w64 c.args.a)) (to_z w64 (of_z w64 c.args.w))
-read c = rw (to_z-of_z w64 _ c.ranges.a, to_z-of_z w64 _ c.ranges.w) c.requires
-
-pub digits-i-requires : goal.digits-i-requires
-digits-i-requires c = c.requires.u-bound
+read : {m : ℕ} {a w : ℤ} → ShareArguments (pos m) a w → SFits w64 a → SFits w64 w → ShareArguments (pos m) (to_z w64 (of_z w64 a)) (to_z w64 (of_z w64 w))
+read args f g = rw (to_z-of_z w64 _ f, to_z-of_z w64 _ g) args
 
 pub loop-i-init : goal.loop-i-init
-loop-i-init c = (c.digits-i.ensures.0, no_digit (read c.before) c.digits-i.result c.digits-i.ensures.1)
+loop-i-init c = (c.digits-i.ensures.0, no_digit (read c.requires c.ranges.a c.ranges.w) c.digits-i.result c.digits-i.ensures.1)
 
 pub next_digit-done-requires : goal.next_digit-done-requires
-next_digit-done-requires c = digit-arguments (read c.before.before.before) c.loop-i.i c.loop-i.invariant.1
+next_digit-done-requires c = digit-arguments (read c.requires c.ranges.a c.ranges.w) c.loop-i.i c.loop-i.invariant.1
 
 pub loop-i-preserved : goal.loop-i-preserved
 loop-i-preserved c =
     let l = c.loop-i in
-    (omega arith, c.next_digit-done.ensures ∙ next-taken (read c.before.before.before.before) l.i l.invariant.1 (omega arith))
-
-pub returns : goal.returns
-returns c =
-    let s = c.before.before.before in
-    let l = c.loop-i in
-    rw (to_z-of_z w64 _ s.ranges.a, to_z-of_z w64 _ s.ranges.w) at (all_digits (read s) l.i l.invariant.1 (omega arith))
+    (omega arith, c.next_digit-done.ensures ∙ next-taken (read c.requires c.ranges.a c.ranges.w) l.i l.invariant.1 (omega arith))

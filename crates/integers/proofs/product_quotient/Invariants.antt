@@ -12,6 +12,3 @@ taken m a w i = quotient_of (pos (m / 2 ^ (11 * i)) *ℤ a) (nat_abs w)
 
 abbrev pub invariant-loop-i : goal.invariant-loop-i
 invariant-loop-i l = (l.i ≤ 4) × (l.done ≡ taken l.m l.a l.w l.i)
-
-abbrev pub decreases-loop-i : goal.decreases-loop-i
-decreases-loop-i l = l.i

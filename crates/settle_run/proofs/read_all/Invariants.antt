@@ -6,6 +6,6 @@ use Rattle.settle_run.proofs.read_all.Given as goal
 abbrev pub invariant-loop : goal.invariant-loop
 invariant-loop g l =
     record {
-      read : Read l.initial.now l.initial.line l.initial.rows l.now l.line l.rows l.out;
-      streams : Underway l.initial.now l.initial.line l.initial.rows l.initial.out l.now l.line l.rows l.out (g.R.Read.remaining l.initial.reader) (g.R.Read.remaining l.reader) (g.W.Write.contents l.initial.writer) (g.W.Write.contents l.writer);
+      read : Read l.initial.progress l.progress l.out;
+      streams : Underway l.initial.progress l.initial.out l.progress l.out (g.R.Read.remaining l.initial.reader) (g.R.Read.remaining l.reader) (g.W.Write.contents l.initial.writer) (g.W.Write.contents l.writer);
     }

@@ -20,9 +20,6 @@ returns-then-q-gt31 c =
     let q = c.args.q in
     rw (lt-leb q 6 (omega arith), ne_eqb q 9 (λ e. omega arith), ne_eqb q 13 (λ e. omega arith))
 
-pub bits-requires : goal.bits-requires
-bits-requires c = record { fact_1 = omega arith; fact_2 = omega arith }
-
 pub returns : goal.returns
 unfolding same all_below is_actual
-returns c = rw c.bits.ensures (bit_is _ refl c.args.q (omega arith))
+returns c = bit_is _ refl c.args.q (omega arith)

@@ -1,5 +1,4 @@
 -- `words::is_registration` meets its contract: its tests are those of the definition that can fail, one after the other. Assumes nothing.
-use native.Mathlib.Omega.{arith}
 use Rattle.words.proofs.RegistrationWord.{top-fails, low-fails, additional-fails, llf-decides}
 use Rattle.words.proofs.is_registration.Goals as goal
 
@@ -7,18 +6,15 @@ pub returns-then-w-ne0 : goal.returns-then-w-ne0
 returns-then-w-ne0 c = top-fails _ c.if-w-ne0.true
 
 pub returns-then-low-ne0 : goal.returns-then-low-ne0
-returns-then-low-ne0 c = low-fails _ c.if-w-ne0.false _ c.bits-low.ensures c.if-low-ne0.true
-
-pub overflow_shr-allowed : goal.overflow_shr-allowed
-overflow_shr-allowed c = omega (arith, c.bits-flagged.ensures)
+returns-then-low-ne0 c = low-fails _ c.if-w-ne0.false _ c.of-low.ensures c.if-low-ne0.true
 
 pub returns-then-allowed-eq0 : goal.returns-then-allowed-eq0
 returns-then-allowed-eq0 c =
     let e = c.before.before in
-    additional-fails _ e.if-w-ne0.false _ e.bits-low.ensures e.if-low-ne0.false _ c.bits-flagged.ensures c.if-allowed-eq0.true
+    additional-fails _ e.if-w-ne0.false _ e.of-low.ensures e.if-low-ne0.false _ c.of-flagged.ensures c.if-allowed-eq0.true
 
 pub returns : goal.returns
 returns c =
     let o = c.before in
     let e = o.before.before in
-    llf-decides _ e.if-w-ne0.false _ e.bits-low.ensures e.if-low-ne0.false _ o.bits-flagged.ensures o.if-allowed-eq0.false _ c.bits-llf.ensures
+    llf-decides _ e.if-w-ne0.false _ e.of-low.ensures e.if-low-ne0.false _ o.of-flagged.ensures o.if-allowed-eq0.false _ c.of-llf.ensures

@@ -1,23 +1,18 @@
 -- `allocate` gives the outcome of the allocate call: a refusal of the book, or what its allocation leaves. Assumes nothing.
-use mathlib.Core.Path.{sym, ◌∙◌, ap}
-use Rattle.book.specs.Book.{Book, lent}
-use Rattle.allocation.proofs.Ways.{allocate-on-ill-formed, allocate-keeps}
+use mathlib.Core.Path.{sym, ◌∙◌}
+use Rattle.book.specs.Book.{lent}
+use Rattle.allocation.specs.Allocate.{allocate_call}
+use Rattle.allocation.specs.Helpers.{AllocatedAs}
+use Rattle.allocation.proofs.Ways.{way-ill-formed, way-given}
 use Rattle.allocation.proofs.allocate.allocate.Goals as goal
+use Rattle.allocation.proofs.allocate.allocate.Goals.{After-from, then-not-is_formed, else-not-is_formed}
 
-pub returns-then-not-is_formed : goal.returns-then-not-is_formed
-returns-then-not-is_formed c =
-    rw c.refused.ensures
-    (allocate-on-ill-formed _ _ _ (sym c.is_formed.ensures ∙ c.if-not-is_formed.true))
-
-pub allocate_formed-answer-requires : goal.allocate_formed-answer-requires
-allocate_formed-answer-requires c = sym c.is_formed.ensures ∙ c.if-not-is_formed.false
+as-allocated : (c : After-from) → AllocatedAs (allocate_call (lent c.args.settings c.args.rows.now) c.args.volumes.now) c.if-not-is_formed.outcome c.if-not-is_formed.volumes
+as-allocated c =
+    elim c.if-not-is_formed.branch [
+      | then-not-is_formed w ↦ rw (w.outcome-is, w.volumes-is) (way-ill-formed _ _ (sym c.is_formed.ensures ∙ w.if-not-is_formed.true))
+      | else-not-is_formed w ↦ rw (w.outcome-is, w.volumes-is) w.allocate_formed-outcome.ensures
+    ]
 
 pub returns : goal.returns
-returns c =
-    let keeps = allocate-keeps (lent c.args.settings c.args.rows.now) c.args.volumes.now in
-    record {
-      answer = c.allocate_formed-answer.ensures.answer-is;
-      settings = sym (ap (λ (b : Book). b.settings) keeps);
-      rows = sym (ap (λ (b : Book). b.rows) keeps);
-      volumes = c.allocate_formed-answer.ensures.volumes-are;
-    }
+returns c = way-given _ _ _ (as-allocated c) c.from.ensures

@@ -40,7 +40,7 @@ turn : (c : goal.After-step_if_below-low) →
 turn c =
     let at-loop = c.before.before.before in
     let start = at-loop.before.before.before.before.before.before in
-    stepped start.args.rows.now start.args.n start.args.m start.requires.fact_2 (at-loop.loop-left.low + at-loop.loop-left.left / 2) (at-loop.loop-left.left / 2) c.step_if_below-low.result at-loop.search_key-key.result (omega arith) at-loop.search_key-key.ensures c.step_if_below-low.ensures
+    stepped start.args.rows.now start.args.n start.args.m start.requires.formed (at-loop.loop-left.low + at-loop.loop-left.left / 2) (at-loop.loop-left.left / 2) c.step_if_below-low.result at-loop.search_key-key.result (omega arith) at-loop.search_key-key.ensures c.step_if_below-low.ensures
 
 last : (c : goal.After-step_if_below) →
     let at-loop = c.before.before.before in
@@ -49,7 +49,7 @@ last : (c : goal.After-step_if_below) →
 last c =
     let at-loop = c.before.before.before in
     let start = at-loop.before.before.before.before.before.before in
-    stepped start.args.rows.now start.args.n start.args.m start.requires.fact_2 at-loop.loop-left.low 1 c.step_if_below.result at-loop.search_key-key.result (omega arith) at-loop.search_key-key.ensures c.step_if_below.ensures
+    stepped start.args.rows.now start.args.n start.args.m start.requires.formed at-loop.loop-left.low 1 c.step_if_below.result at-loop.search_key-key.result (omega arith) at-loop.search_key-key.ensures c.step_if_below.ensures
 
 pub returns-then-n-eq0 : goal.returns-then-n-eq0
 returns-then-n-eq0 c =
@@ -61,7 +61,7 @@ pub returns-then-rows-n : goal.returns-then-rows-n
 returns-then-rows-n c =
     let start = c.before.before.before.before in
     let args = start.args in
-    let last = before-place-in args.rows.now args.n (args.n - 1) (omega arith) args.m start.requires.fact_2 c.if-rows-n.true in
+    let last = before-place-in args.rows.now args.n (args.n - 1) (omega arith) args.m start.requires.formed c.if-rows-n.true in
     omega (arith, last, place-within-in args.rows.now args.n args.m)
 
 pub loop-left-init : goal.loop-left-init
@@ -69,27 +69,14 @@ loop-left-init c =
     let args = c.args in
     omega (arith, place-within-in args.rows.now args.n args.m)
 
-pub step_if_below-low-requires : goal.step_if_below-low-requires
-step_if_below-low-requires c =
-    let args = c.args in
-    record {
-      fact_1 = row_small args.rows.now args.n args.m c.requires.fact_2 (c.loop-left.low + c.loop-left.left / 2) (omega arith);
-      fact_2 = omega arith;
-    }
-
-pub overflow_add-low : goal.overflow_add-low
-overflow_add-low c = ⊎_elim (λ w. omega arith) (λ w. omega arith) (turn c)
+pub step_if_below-low-requires-clause-below_top : goal.step_if_below-low-requires-clause-below_top
+step_if_below-low-requires-clause-below_top c = row_small c.args.rows.now c.args.n c.args.m c.requires.formed (c.loop-left.low + c.loop-left.left / 2) (omega arith)
 
 pub loop-left-preserved : goal.loop-left-preserved
 loop-left-preserved c = ⊎_elim (λ w. omega arith) (λ w. omega arith) (turn c)
 
-pub step_if_below-requires : goal.step_if_below-requires
-step_if_below-requires c =
-    let args = c.args in
-    record { fact_1 = row_small args.rows.now args.n args.m c.requires.fact_2 c.loop-left.low (omega arith); fact_2 = omega arith }
-
-pub overflow_add-result : goal.overflow_add-result
-overflow_add-result c = ⊎_elim (λ w. omega arith) (λ w. omega arith) (last c)
+pub step_if_below-requires-clause-below_top : goal.step_if_below-requires-clause-below_top
+step_if_below-requires-clause-below_top c = row_small c.args.rows.now c.args.n c.args.m c.requires.formed c.loop-left.low (omega arith)
 
 pub returns : goal.returns
 returns c = ⊎_elim (λ w. omega arith) (λ w. omega arith) (last c)

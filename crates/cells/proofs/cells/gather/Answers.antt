@@ -1,31 +1,33 @@
-use Prim.Native.Nat.{ℕ, ◌+◌, ◌*◌, ◌≤◌, ◌<◌}
-use mathlib.Core.Path.{◌≡◌, refl, sym, ◌∙◌}
-use mathlib.Core.Bool.{Bool, false, ◌||◌}
-use mathlib.Core.List.{List}
+use Prim.Native.Nat.{ℕ, ◌+◌, ◌≤◌, ◌<◌}
+use mathlib.Core.Path.{◌≡◌, refl, sym, ◌∙◌, ap}
+use mathlib.Core.Bool.{Bool, true, false, not, ◌||◌}
+use mathlib.Core.List.{List, [], map}
 use native.Mathlib.Omega.{arith}
-use lib.IntN.{ℤ, pos, nat_abs, ◌-ℤ◌, ◌*ℤ◌}
-use lib.ListN.{get_or, set}
+use lib.IntN.{ℤ, nat_abs}
+use lib.ListN.{length, get_or, set, take, length-map}
+use Rattle.std.proofs.lemmas.List.{length-take-le, take_all}
+use Rattle.std.specs.Prelude.{is_some}
 use Rattle.integers.specs.Sum.{sum}
 use Rattle.words.specs.Registration.{llf_of, unit_of}
 use Rattle.words.proofs.RegistrationWord.{unit-bound}
 use Rattle.book.specs.Limits.{classes}
-use Rattle.book.specs.Rows.{Row, rows_of}
-use Rattle.book.proofs.RowsOf.{row_at, length-rows, take-rows, row-of}
+use Rattle.book.specs.Rows.{Row, first_row, rows_of, rows_formed}
+use Rattle.book.proofs.RowsOf.{length-rows}
 use Rattle.cells.specs.declared.Use.{Use}
-use Rattle.cells.specs.Energy.{Source, source_of, any_lacks_shape, counts_of}
-use Rattle.cells.specs.Cells.{consumption_class, units, class_of, sum_over}
-use Rattle.cells.specs.Helpers.{use_of, added, raw_cell, AddArguments, GatherArguments, Gathered, estimate_of}
-use Rattle.cells.proofs.Tables.{entry_of, TableSized, table-entry, table-sized}
-use Rattle.cells.proofs.Each.{Each, each_at, each_take}
-use Rattle.cells.proofs.RowBounds.{RowBounds, rows-bounds}
+use Rattle.cells.specs.Energy.{source_of, energy_wh, any_lacks_shape, counts_of}
+use Rattle.cells.specs.Cells.{estimate_bit, class_of, consumption_class, units, sum_over}
+use Rattle.cells.specs.Helpers.{source_number, use_of, wh_of, with_meter, raw_cell, table_of, AddArguments, GatherArguments, Gathered}
+use Rattle.cells.proofs.Tables.{entry_of, table-entry}
+use Rattle.cells.proofs.Turns.{this_row, rows_next, before-bounds, this-bounds}
+use Rattle.cells.proofs.Uses.{use-wh, use-lacks}
+use Rattle.cells.proofs.RowBounds.{RowBounds}
 use Rattle.cells.proofs.CellBounds.{raw-cell-most}
-use Rattle.cells.proofs.OneMore.{rows_more, table_more, lacks-more, counts-stored, number_bound, count-bound, estimate-number, estimate-few, estimate-zero, estimate-one}
+use Rattle.cells.proofs.OneMore.{meter-more, lacks-more, counts-stored, count-bound}
 use Rattle.cells.proofs.cells.gather.Goals as goal
-use Rattle.cells.proofs.cells.gather.Goals.{then-meter-eq-ACTUAL, else-meter-eq-ACTUAL}
 
 -- before the first turn
-none-gathered : (words : List ℕ) (n : ℕ) (shapes : List ℕ) (cells : List (List ℤ)) (counts : List ℕ) → GatherArguments words n shapes cells counts → Gathered shapes (rows_of 0 words) cells counts false
-unfolding rows_of raw_cell sum_over sum counts_of any_lacks_shape
+none-gathered : (words : List ℕ) (n : ℕ) (shapes : List ℕ) (cells : List (List ℤ)) (counts : List ℕ) → GatherArguments words n shapes cells counts → Gathered shapes [] cells counts false
+unfolding raw_cell sum_over sum counts_of any_lacks_shape
 none-gathered words n shapes cells counts ok =
     record {
       cells_are = ok.cells-empty;
@@ -33,124 +35,94 @@ none-gathered words n shapes cells counts ok =
       lacks-is = refl;
     }
 
--- the class, as it is worked
-class-is : (shapes : List ℕ) (registration reading : ℕ) {used : Use} {e class : ℕ} → used ≡ use_of shapes registration reading → e ≡ estimate_of used.source → class ≡ class_of e registration → class ≡ consumption_class registration reading
-unfolding consumption_class
-class-is shapes registration reading b e d = rw (d, e, b, estimate-number (source_of registration reading))
-
--- a turn: row i
-module _ (words : List ℕ) (n : ℕ) (shapes : List ℕ) {start : List (List ℤ)} {zeros : List ℕ} (ok : GatherArguments words n shapes start zeros) (i : ℕ) (h : i < n) {cells : List (List ℤ)} {counts : List ℕ} {lacks : Bool} (got : Gathered shapes (rows_of i words) cells counts lacks) where
+-- a turn
+module _ (words : List ℕ) (n : ℕ) (shapes : List ℕ) {start : List (List ℤ)} {zeros : List ℕ} (ok : GatherArguments words n shapes start zeros)
+    (rows : List (List ℕ)) (cut : map first_row rows ≡ rows_of n words) (i : ℕ) (inside : i < length rows)
+    {cells : List (List ℤ)} {counts : List ℕ} {lacks : Bool} (got : Gathered shapes (map first_row (take i rows)) cells counts lacks)
+    {used : Use} (e : used ≡ use_of shapes (this_row rows i).registration (this_row rows i).reading) where
   abbrev this : Row
-  this = row_at words (3 * i)
+  this = this_row rows i
 
-  abbrev source : Source
-  source = source_of this.registration this.reading
+  abbrev before : List Row
+  before = map first_row (take i rows)
 
-  abbrev class_in : ℕ
-  class_in = consumption_class this.registration this.reading
+  formed : rows_formed 0 (map first_row rows) ≡ true
+  formed = rw cut ok.rows-formed
 
-  abbrev this_use : Use
-  this_use = use_of shapes this.registration this.reading
+  bounds : RowBounds shapes this
+  bounds = this-bounds rows i shapes ok.shapes-formed formed inside
 
-  all-bounds : Each (RowBounds shapes) (rows_of n words)
-  all-bounds = rows-bounds shapes ok.shapes-formed 0 (rows_of n words) ok.rows-formed
-
-  this-bounds : RowBounds shapes this
-  this-bounds = rw (row-of n i words this h) at (each_at all-bounds i this (rw length-rows h))
-
-  before-bounds : Each (RowBounds shapes) (rows_of i words)
-  before-bounds = rw (take-rows i n words (omega arith)) at (each_take all-bounds i)
+  before-few : length before ≤ 65536
+  before-few =
+      omega (
+        arith,
+        ok.few,
+        sym (length-map rows first_row) ∙ ap length cut ∙ length-rows n words,
+        length-map (take i rows) first_row ∙ length-take-le i rows (omega arith),
+      )
 
   cell-bound : (unit class : ℕ) → unit < units → class < classes → nat_abs (entry_of cells unit class) ≤ 655360000000000
   cell-bound unit class u k =
-      rw (got.cells_are, table-entry (raw_cell shapes (rows_of i words)) unit class u k)
-      (omega (arith, length-rows i words, raw-cell-most shapes unit class before-bounds))
+      rw (got.cells_are, table-entry (raw_cell shapes before) unit class u k)
+      (omega (arith, before-few, raw-cell-most shapes unit class (before-bounds rows i shapes ok.shapes-formed formed)))
 
-  cells-sized : TableSized cells
-  cells-sized = rw got.cells_are (table-sized (raw_cell shapes (rows_of i words)))
+  -- the cells and the amounts, as the code works them
+  module _ {unit class wh llf : ℕ} (u : unit ≡ unit_of this.registration) (k : class ≡ class_of (estimate_bit used.source) this.registration) (w : wh ≡ wh_of used) (l : llf ≡ llf_of this.registration) where
+    class-is : class ≡ consumption_class this.registration this.reading
+    unfolding consumption_class
+    class-is = k ∙ rw e
 
-  turn-asks : {unit class llf : ℕ} {used : Use} → unit ≡ unit_of this.registration → used ≡ this_use → class ≡ class_in → llf ≡ llf_of this.registration → AddArguments cells unit class used.wh llf
-  turn-asks {unit} {class} {llf} {used} a b d e =
-      let u : unit < units = omega (arith, unit-bound this.registration) in
-      record {
-        unit-bound = u;
-        class-bound = omega (arith, this-bounds.class);
-        rows_long = cells-sized.rows_long;
-        row-long = cells-sized.row-long unit u;
-        wh-bound = rw b this-bounds.energy;
-        llf-bound = omega (arith, this-bounds.llf);
-        cells-bound = λ k l. cell-bound unit k u l;
-      }
+    wh-is : wh ≡ energy_wh shapes this.registration this.reading
+    wh-is = w ∙ rw e (use-wh shapes this.registration this.reading)
 
-  count-bounds : {used : Use} → used ≡ this_use → (used.source < 4) × (get_or counts used.source 0 ≤ i)
-  count-bounds b =
-      rw (b, got.counts-are) (number_bound source, rw length-rows at (count-bound (rows_of i words) source))
+    turn-asks : AddArguments (get_or cells unit []) class wh llf
+    turn-asks =
+        let within : unit_of this.registration < units = omega (arith, unit-bound this.registration) in
+        record {
+          class-bound = omega (arith, class-is, bounds.class);
+          wh-bound = omega (arith, wh-is, bounds.energy);
+          llf-bound = omega (arith, bounds.llf);
+          cells-bound = λ j h. rw u (cell-bound (unit_of this.registration) j within h);
+        }
 
-  turn-gives : {unit class llf : ℕ} {used : Use} {after : List (List ℤ)} → unit ≡ unit_of this.registration → used ≡ this_use → class ≡ class_in → llf ≡ llf_of this.registration
-      → after ≡ added (added cells unit class (pos used.wh)) unit (class + 1) ((pos llf -ℤ pos 1000) *ℤ pos used.wh)
-      → Gathered shapes (rows_of (i + 1) words) after (set counts used.source (get_or counts used.source 0 + 1)) (lacks || used.lacks)
-  turn-gives {unit} {class} {llf} {used} {after} a b d e stored =
-      rw (rows_more i words)
-      (record {
-        cells_are = stored ∙ rw (a, b, d, e, got.cells_are) (table_more shapes (rows_of i words) this (omega (arith, this-bounds.class)));
-        counts-are = rw (b, got.counts-are) (sym (counts-stored (rows_of i words) this));
-        lacks-is = rw (b, got.lacks-is) (sym (lacks-more shapes (rows_of i words) this));
-      })
+    turn-adds : {after : List ℤ} → after ≡ with_meter (get_or cells unit []) class wh llf → set cells unit after ≡ table_of (raw_cell shapes (map first_row (take (i + 1) rows)))
+    turn-adds stored = rw (stored, u, class-is, wh-is, l, got.cells_are, rows_next rows i inside) (meter-more shapes before this (omega (arith, bounds.class)))
 
-pub loop-i-init : goal.loop-i-init
-loop-i-init c = (omega arith, none-gathered _ _ _ _ _ c.requires)
+  -- where its count stands
+  module _ {at : ℕ} (a : at ≡ source_number used.source) where
+    count-most : get_or counts at 0 ≤ 65536
+    count-most = rw (a, e, got.counts-are) (omega (arith, before-few, count-bound before (source_of this.registration this.reading)))
 
-pub class-at-requires : goal.class-at-requires
-class-at-requires c =
-    let e : c.if-meter-eq-ACTUAL.e ≡ estimate_of c.use_of-meter.result.source =
-    elim c.if-meter-eq-ACTUAL.branch [
-      | then-meter-eq-ACTUAL w ↦ estimate-zero _ w.e-is w.if-meter-eq-ACTUAL.true
-      | else-meter-eq-ACTUAL w ↦ estimate-one _ w.e-is w.if-meter-eq-ACTUAL.false
-    ]
-    in
-    rw e (estimate-few c.use_of-meter.result.source)
+    turn-gives : {table : List (List ℤ)} (missing : Bool) → table ≡ table_of (raw_cell shapes (map first_row (take (i + 1) rows))) → is_some used.wh ≡ not missing
+        → Gathered shapes (map first_row (take (i + 1) rows)) table (set counts at (get_or counts at 0 + 1)) (lacks || missing)
+    turn-gives missing added none =
+        record {
+          cells_are = added;
+          counts-are = rw (a, e, got.counts-are, rows_next rows i inside) (sym (counts-stored before this));
+          lacks-is = rw (got.lacks-is, use-lacks shapes this.registration this.reading e none, rows_next rows i inside) (sym (lacks-more shapes before this));
+        }
+
+pub loop-registration-init : goal.loop-registration-init
+loop-registration-init c = none-gathered _ _ _ _ _ c.requires
 
 pub add_meter-requires : goal.add_meter-requires
 add_meter-requires c =
-    let e : c.if-meter-eq-ACTUAL.e ≡ estimate_of c.use_of-meter.result.source =
-    elim c.if-meter-eq-ACTUAL.branch [
-      | then-meter-eq-ACTUAL w ↦ estimate-zero _ w.e-is w.if-meter-eq-ACTUAL.true
-      | else-meter-eq-ACTUAL w ↦ estimate-one _ w.e-is w.if-meter-eq-ACTUAL.false
-    ]
-    in
-    turn-asks _ _ _ c.requires _ c.loop-i-test.true c.loop-i.invariant.1
-    c.unit-unit.ensures c.use_of-meter.ensures (class-is _ _ _ c.use_of-meter.ensures e c.class-at.ensures) c.llf.ensures
-
-pub offset_bounds-counts-from : goal.offset_bounds-counts-from
-offset_bounds-counts-from c = omega (arith, count-bounds _ _ _ c.requires _ c.loop-i-test.true c.loop-i.invariant.1 c.use_of-meter.ensures)
-
-pub bounds-counts-from : goal.bounds-counts-from
-bounds-counts-from c = (count-bounds _ _ _ c.requires _ c.loop-i-test.true c.loop-i.invariant.1 c.use_of-meter.ensures).0
+    turn-asks _ _ _ c.requires _ c.first_rows-rows.ensures.rows _ c.loop-registration-test.true c.loop-registration.invariant c.use_of-meter.ensures
+    c.unit-unit.ensures c.class-at.ensures c.unwrap_or-wh.ensures c.of.ensures
 
 pub overflow_add-counts : goal.overflow_add-counts
-overflow_add-counts c = omega (arith, count-bounds _ _ _ c.requires _ c.loop-i-test.true c.loop-i.invariant.1 c.use_of-meter.ensures)
+overflow_add-counts c =
+    let most = count-most _ _ _ c.requires _ c.first_rows-rows.ensures.rows _ c.loop-registration-test.true c.loop-registration.invariant c.use_of-meter.ensures c.from.ensures in
+    omega (arith, most)
 
-pub offset_bounds-counts-from-in-loop-i : goal.offset_bounds-counts-from-in-loop-i
-offset_bounds-counts-from-in-loop-i c = omega (arith, count-bounds _ _ _ c.requires _ c.loop-i-test.true c.loop-i.invariant.1 c.use_of-meter.ensures)
-
-pub bounds-counts-from-in-loop-i : goal.bounds-counts-from-in-loop-i
-bounds-counts-from-in-loop-i c = (count-bounds _ _ _ c.requires _ c.loop-i-test.true c.loop-i.invariant.1 c.use_of-meter.ensures).0
-
-pub loop-i-preserved : goal.loop-i-preserved
-loop-i-preserved c =
-    let e : c.if-meter-eq-ACTUAL.e ≡ estimate_of c.use_of-meter.result.source =
-    elim c.if-meter-eq-ACTUAL.branch [
-      | then-meter-eq-ACTUAL w ↦ estimate-zero _ w.e-is w.if-meter-eq-ACTUAL.true
-      | else-meter-eq-ACTUAL w ↦ estimate-one _ w.e-is w.if-meter-eq-ACTUAL.false
-    ]
-    in (
-      omega arith,
-      turn-gives _ _ _ c.requires _ c.loop-i-test.true c.loop-i.invariant.1
-          c.unit-unit.ensures c.use_of-meter.ensures (class-is _ _ _ c.use_of-meter.ensures e c.class-at.ensures) c.llf.ensures
-          c.add_meter.ensures,
-    )
+pub loop-registration-preserved : goal.loop-registration-preserved
+loop-registration-preserved c =
+    turn-gives _ _ _ c.requires _ c.first_rows-rows.ensures.rows _ c.loop-registration-test.true c.loop-registration.invariant c.use_of-meter.ensures c.from.ensures _
+    (turn-adds _ _ _ c.requires _ c.first_rows-rows.ensures.rows _ c.loop-registration-test.true c.loop-registration.invariant c.use_of-meter.ensures
+    c.unit-unit.ensures c.class-at.ensures c.unwrap_or-wh.ensures c.of.ensures c.add_meter.ensures)
+    c.is_none-lacks.ensures
 
 pub returns : goal.returns
 returns c =
-    let e : c.loop-i.i ≡ c.args.n = omega arith in
-    rw e at c.loop-i.invariant.1
+    let e = take_all c.loop-registration.registration-index c.first_rows-rows.result.now c.loop-registration-test.false in
+    rw (e, c.first_rows-rows.ensures.rows) at c.loop-registration.invariant

@@ -1,5 +1,5 @@
 use Prim.Native.Nat.{ℕ, suc, ◌+◌, ◌≤◌, ◌<◌}
-use mathlib.Core.Path.{◌≡◌, refl, sym, ap, ◌∙◌}
+use mathlib.Core.Path.{◌≡◌, sym, ap, ◌∙◌}
 use mathlib.Core.Bool.{true, false}
 use mathlib.Core.List.{List}
 use native.Mathlib.Omega.{arith}
@@ -43,70 +43,51 @@ volume {unit = unit} args p h =
     let bound = args.volumes-bound unit in
     held _ 1000000000000000000 (rw (entry-is p h) bound) (omega arith)
 
-pub order_keys-requires : goal.order_keys-requires
-order_keys-requires c = record { keys-long = refl; fractions-bound = c.requires.fractions-bound }
-
 pub units-init : goal.units-init
 units-init c =
     let p = c.requires in
-    (omega arith, hand-none _ _ _ (p.volumes-long ∙ sym p.fractions-long) (omega (arith, p.lack-few, p.fractions-long)))
-
-pub loop-other-init : goal.loop-other-init
-loop-other-init c = (omega arith, (omega arith, record { counted = omega arith }))
+    hand-none _ _ _ (p.volumes-long ∙ sym c.told-fractions) (omega (arith, p.lack-few, c.told-fractions))
 
 pub loop-other-preserved : goal.loop-other-preserved
 loop-other-preserved c =
     let unit = c.units.unit in
     let other = c.loop-other.other in
     let fs = c.args.fractions.now in
-    let own = c.order_keys.ensures.each-is unit (omega arith) in
-    let its = c.order_keys.ensures.each-is other (omega arith) in
-    let h : other < length fs = omega (arith, c.requires.fractions-long) in
+    let own = c.order_keys-keys.ensures.each-is unit (omega arith) in
+    let its = c.order_keys-keys.ensures.each-is other (omega arith) in
+    let h : other < length fs = omega (arith, c.told-fractions) in
     elim c.if-keys-unit.branch [
       | then-keys-unit w ↦
           let t = key-before unit (get_or fs unit 0) other (get_or fs other 0) (omega arith) (omega arith) (omega (arith, own, its, w.if-keys-unit.true)) in
-          rw w.before-is (omega arith, (omega arith, count-one c.loop-other.invariant.1.1 h t))
+          rw w.before-is (omega arith, count-one c.loop-other.invariant.1 h t)
       | else-keys-unit w ↦
           let t = key-after unit (get_or fs unit 0) other (get_or fs other 0) (omega arith) (omega arith) (omega (arith, own, its, w.if-keys-unit.false)) in
-          rw w.before-is (omega arith, (omega arith, count_no c.loop-other.invariant.1.1 h t))
+          rw w.before-is (omega arith, count_no c.loop-other.invariant.1 h t)
     ]
-
-pub bounds-volumes-unit : goal.bounds-volumes-unit
-bounds-volumes-unit c = omega (arith, c.units.invariant.1.long, c.requires.fractions-long)
 
 pub overflow_add-volumes : goal.overflow_add-volumes
 overflow_add-volumes c =
-    let h : c.units.unit < length c.args.fractions.now = omega (arith, c.requires.fractions-long) in
-    plus-fits (volume c.requires c.units.invariant.1 h) (held-literal 1 (omega arith)) (omega arith)
+    let h : c.units.unit < length c.args.fractions.now = omega (arith, c.told-fractions) in
+    plus-fits (volume c.requires c.units.invariant h) (held-literal 1 (omega arith)) (omega arith)
 
 pub overflow_sub-left : goal.overflow_sub-left
 overflow_sub-left c =
-    let rank = count-all c.loop-other.invariant.1.1 (omega (arith, c.requires.fractions-long)) in
-    some_left c.units.invariant.1 (omega (arith, c.requires.fractions-long)) (rw rank c.if-before-lack.true)
+    let rank = count-all c.loop-other.invariant.1 (omega (arith, c.told-fractions)) in
+    some_left c.units.invariant (omega (arith, c.told-fractions)) (rw rank c.if-before-lack.true)
 
 pub units-preserved : goal.units-preserved
 units-preserved c =
-    let p = c.units.invariant.1 in
-    let h : c.units.unit < length c.args.fractions.now = omega (arith, c.requires.fractions-long) in
-    let rank = count-all c.loop-other.invariant.1.1 (omega (arith, c.requires.fractions-long)) in
+    let p = c.units.invariant in
+    let h : c.units.unit < length c.args.fractions.now = omega (arith, c.told-fractions) in
+    let rank = count-all c.loop-other.invariant.1 (omega (arith, c.told-fractions)) in
     let one = plus-held (volume c.requires p h) (held-literal 1 (omega arith)) (omega arith) in
     elim c.if-before-lack.branch [
-      | then-before-lack w ↦ (omega arith, rw (w.volumes-is, w.left-is, one.reads) (hand-one p h (rw rank w.if-before-lack.true)))
-      | else-before-lack w ↦ (omega arith, rw (w.volumes-is, w.left-is) (hand-no p h (rw rank w.if-before-lack.false)))
+      | then-before-lack w ↦ rw (w.volumes-is, w.left-is, one.reads) (hand-one p h (rw rank w.if-before-lack.true))
+      | else-before-lack w ↦ rw (w.volumes-is, w.left-is) (hand-no p h (rw rank w.if-before-lack.false))
     ]
 
-pub shape_of-volumes-after-units : goal.shape_of-volumes-after-units
-shape_of-volumes-after-units c =
-    let p = c.requires in
-    c.units.invariant.1.long ∙ p.fractions-long ∙ sym p.volumes-long
-
 pub returns-after-units : goal.returns-after-units
-returns-after-units c = hand-all c.units.invariant.1 (omega (arith, c.requires.fractions-long))
-
-pub shape_of-volumes-then-left-eq0 : goal.shape_of-volumes-then-left-eq0
-shape_of-volumes-then-left-eq0 c =
-    let p = c.requires in
-    c.units.invariant.1.long ∙ p.fractions-long ∙ sym p.volumes-long
+returns-after-units c = hand-all c.units.invariant (omega (arith, c.told-fractions))
 
 pub returns-then-left-eq0 : goal.returns-then-left-eq0
-returns-then-left-eq0 c = hand-last c.units.invariant.1 c.if-left-eq0.true
+returns-then-left-eq0 c = hand-last c.units.invariant c.if-left-eq0.true

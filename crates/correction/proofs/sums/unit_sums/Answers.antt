@@ -38,12 +38,14 @@ DroppedHeld cells i droppings = Held droppings (net_of 0 (take i (dropped_from 0
 -- a cell of class k, rounded
 record Cell (cells : List ℤ) (weights : List ℕ) (k : ℕ) (c : ℤ) : Type 0 where
   args : UnitArguments cells weights
+  cells-long : length cells ≡ 24
+  weights-long : length weights ≡ 24
   class-bound : k < 24
   cell-is : c ≡ get_or (rounded_from 0 cells) k (pos 0)
 
 module _ {cells : List ℤ} {weights : List ℕ} {k : ℕ} {c : ℤ} (x : Cell cells weights k c) where
   in_cells : k < length (rounded_from 0 cells)
-  in_cells = omega (arith, each-length whole_cell 0 cells, x.class-bound, x.args.cells-long)
+  in_cells = omega (arith, each-length whole_cell 0 cells, x.class-bound, x.cells-long)
 
   cell : Held (of_z w64 c) c 1400000000000
   cell = held c 1400000000000 (rw x.cell-is (x.args.cells-bound k)) (omega arith)
@@ -68,7 +70,7 @@ module _ {cells : List ℤ} {weights : List ℕ} {k : ℕ} {c : ℤ} (x : Cell c
 
       next-weighted : WeightedHeld cells weights (k + 1) (of_z w64 (to_z w64 weighted +ℤ to_z w64 times))
       next-weighted =
-          let in-weights : k < length weights = omega (arith, x.class-bound, x.args.weights-long) in
+          let in-weights : k < length weights = omega (arith, x.class-bound, x.weights-long) in
           let bound : (k + 1) * 1400000000000000 ≡ k * 1400000000000000 + 1400000000000000 = omega arith in
           rw (bound, add-one, weighted-next (rounded_from 0 cells) weights k in_cells in-weights, ← x.cell-is, ← e)
           (plus-held a product (omega (arith, x.class-bound)))
@@ -125,13 +127,23 @@ loss-fits x h = fit x 1400000000000500 (omega (arith, nearest-size x)) (omega ar
 -- the pair of a turn: of an even class, and what its losses are rounded to
 record Turn (cells : List ℤ) (weights : List ℕ) (i : ℕ) (rounded : Rounded) : Type 0 where
   args : UnitArguments cells weights
+  cells-long : length cells ≡ 24
+  weights-long : length weights ≡ 24
   class-bound : i < 24
   even : i % 2 ≡ 0
   gives : rounded ≡ rounded_of (to_z w64 (of_z w64 (get_or cells (i + 1) (pos 0))))
 
-turn : {cells : List ℤ} {weights : List ℕ} {rounded : Rounded} (i : ℕ) → UnitArguments cells weights → i < 24 → i % 2 ≡ 0
-    → rounded ≡ rounded_of (to_z w64 (of_z w64 (get_or cells (i + 1) (pos 0)))) → Turn cells weights i rounded
-turn i args class-bound even gives = record { args = args; class-bound = class-bound; even = even; gives = gives }
+turn : {cells : List ℤ} {weights : List ℕ} {rounded : Rounded} (pair : ℕ) → UnitArguments cells weights → length cells ≡ 24 → length weights ≡ 24 → pair < 12
+    → rounded ≡ rounded_of (to_z w64 (of_z w64 (get_or cells (2 * pair + 1) (pos 0)))) → Turn cells weights (2 * pair) rounded
+turn pair args cells-long weights-long h gives =
+    record {
+      args = args;
+      cells-long = cells-long;
+      weights-long = weights-long;
+      class-bound = omega arith;
+      even = omega arith;
+      gives = gives;
+    }
 
 module _ {cells : List ℤ} {weights : List ℕ} {i : ℕ} {rounded : Rounded} (t : Turn cells weights i rounded) where
   loss-inside : i + 1 < 24
@@ -141,12 +153,14 @@ module _ {cells : List ℤ} {weights : List ℕ} {i : ℕ} {rounded : Rounded} (
   used-cell =
       record {
         args = t.args;
+        cells-long = t.cells-long;
+        weights-long = t.weights-long;
         class-bound = t.class-bound;
-        cell-is = rw (used-entry cells i t.even (omega (arith, t.class-bound, t.args.cells-long)));
+        cell-is = rw (used-entry cells i t.even (omega (arith, t.class-bound, t.cells-long)));
       }
 
   lost-is : get_or (rounded_from 0 cells) (i + 1) (pos 0) ≡ nearest_wh (get_or cells (i + 1) (pos 0))
-  lost-is = lost-entry cells i t.even (omega (arith, loss-inside, t.args.cells-long))
+  lost-is = lost-entry cells i t.even (omega (arith, loss-inside, t.cells-long))
 
   rounded-is : rounded ≡ rounded_of (get_or cells (i + 1) (pos 0))
   rounded-is = rw (to_z-of_z w64 _ (loss-fits _ (rw lost-is at (t.args.cells-bound (i + 1))))) at t.gives
@@ -155,6 +169,8 @@ module _ {cells : List ℤ} {weights : List ℕ} {i : ℕ} {rounded : Rounded} (
   lost-cell =
       record {
         args = t.args;
+        cells-long = t.cells-long;
+        weights-long = t.weights-long;
         class-bound = loss-inside;
         cell-is = rw lost-is (ap (λ (r : Rounded). r.wh) rounded-is);
       }
@@ -186,84 +202,80 @@ module _ {cells : List ℤ} {weights : List ℕ} {i : ℕ} {rounded : Rounded} (
   signed_is e = rw dropped-read at e
 
 -- past the last class
-module _ (cells : List ℤ) (weights : List ℕ) (i net weighted droppings : ℕ) (args : UnitArguments cells weights) (past : 24 ≤ i) where
+module _ (cells : List ℤ) (weights : List ℕ) (i net weighted droppings : ℕ) (long : length cells ≡ 24) (past : 24 ≤ i) where
   all-passed : take i (rounded_from 0 cells) ≡ rounded_from 0 cells
-  all-passed = take_all i (rounded_from 0 cells) (omega (arith, each-length whole_cell 0 cells, args.cells-long))
+  all-passed = take_all i (rounded_from 0 cells) (omega (arith, each-length whole_cell 0 cells, long))
 
   all-dropped : take i (dropped_from 0 cells) ≡ dropped_from 0 cells
-  all-dropped = take_all i (dropped_from 0 cells) (omega (arith, each-length dropped_cell 0 cells, args.cells-long))
+  all-dropped = take_all i (dropped_from 0 cells) (omega (arith, each-length dropped_cell 0 cells, long))
 
   result : NetRuns cells i (to_z w64 net) → WeightedRuns cells weights i (to_z w64 weighted) → DroppedRuns cells i (to_z w64 droppings)
       → record { sums = record { net = to_z w64 net; weighted = to_z w64 weighted }; droppings = to_z w64 droppings } ≡ unit_figures_of cells weights
   result n a d = rw (n.0, a.0, d.0, all-passed, all-dropped)
 
-pub loop-class-init : goal.loop-class-init
+pub loop-pair-init : goal.loop-pair-init
 unfolding net_of weighted_of
-loop-class-init c = (omega arith, (refl, ((refl, omega arith), ((refl, omega arith), (refl, omega arith)))))
+loop-pair-init c = ((refl, omega arith), ((refl, omega arith), (refl, omega arith)))
 
 pub overflow_add-used : goal.overflow_add-used
-overflow_add-used c = pair-fits (turn c.loop-class.class c.requires.fact_2 c.loop-class-test.true c.loop-class.invariant.1.0 c.nearest_wh-rounded.ensures)
+overflow_add-used c = pair-fits (turn c.loop-pair.pair c.requires c.told-cells c.told-weights (omega arith) c.nearest_wh-rounded.ensures)
 
 pub by_direction-net-requires : goal.by_direction-net-requires
-by_direction-net-requires c = pair-small (turn c.loop-class.class c.requires.fact_2 c.loop-class-test.true c.loop-class.invariant.1.0 c.nearest_wh-rounded.ensures)
+by_direction-net-requires c = pair-small (turn c.loop-pair.pair c.requires c.told-cells c.told-weights (omega arith) c.nearest_wh-rounded.ensures)
 
 pub overflow_add-net : goal.overflow_add-net
 overflow_add-net c =
-    let t = turn c.loop-class.class c.requires.fact_2 c.loop-class-test.true c.loop-class.invariant.1.0 c.nearest_wh-rounded.ensures in
-    net-fits (used-cell t) (lost-cell t) (running-held c.loop-class.net-bits c.loop-class.invariant.1.1.0) t.even (directed-is t c.by_direction-net.ensures)
+    let t = turn c.loop-pair.pair c.requires c.told-cells c.told-weights (omega arith) c.nearest_wh-rounded.ensures in
+    net-fits (used-cell t) (lost-cell t) (running-held c.loop-pair.net-bits c.loop-pair.invariant.0) t.even (directed-is t c.by_direction-net.ensures)
 
 pub by_direction-droppings-requires : goal.by_direction-droppings-requires
-by_direction-droppings-requires c = dropped-small (turn c.loop-class.class c.requires.fact_2 c.loop-class-test.true c.loop-class.invariant.1.0 c.nearest_wh-rounded.ensures)
+by_direction-droppings-requires c = dropped-small (turn c.loop-pair.pair c.requires c.told-cells c.told-weights (omega arith) c.nearest_wh-rounded.ensures)
 
 pub overflow_add-droppings : goal.overflow_add-droppings
 overflow_add-droppings c =
-    let t = turn c.loop-class.class c.requires.fact_2 c.loop-class-test.true c.loop-class.invariant.1.0 c.nearest_wh-rounded.ensures in
-    droppings-fit _ _ t.args.cells-long (loss-inside t) t.even (running-held c.loop-class.droppings-bits c.loop-class.invariant.1.1.1.1) (dropped-is t) (signed_is t c.by_direction-droppings.ensures)
+    let t = turn c.loop-pair.pair c.requires c.told-cells c.told-weights (omega arith) c.nearest_wh-rounded.ensures in
+    droppings-fit _ _ t.cells-long (loss-inside t) t.even (running-held c.loop-pair.droppings-bits c.loop-pair.invariant.1.1) (dropped-is t) (signed_is t c.by_direction-droppings.ensures)
 
 pub overflow_mul-weighted : goal.overflow_mul-weighted
 overflow_mul-weighted c =
-    let t = turn c.loop-class.class c.requires.fact_2 c.loop-class-test.true c.loop-class.invariant.1.0 c.nearest_wh-rounded.ensures in
-    product-fits (used-cell t) c.signed.ensures
+    let t = turn c.loop-pair.pair c.requires c.told-cells c.told-weights (omega arith) c.nearest_wh-rounded.ensures in
+    product-fits (used-cell t) c.from.ensures
 
 pub overflow_add-weighted : goal.overflow_add-weighted
 overflow_add-weighted c =
-    let t = turn c.loop-class.class c.requires.fact_2 c.loop-class-test.true c.loop-class.invariant.1.0 c.nearest_wh-rounded.ensures in
-    weighted-fits (used-cell t) c.signed.ensures (running-held c.loop-class.weighted-bits c.loop-class.invariant.1.1.1.0)
+    let t = turn c.loop-pair.pair c.requires c.told-cells c.told-weights (omega arith) c.nearest_wh-rounded.ensures in
+    weighted-fits (used-cell t) c.from.ensures (running-held c.loop-pair.weighted-bits c.loop-pair.invariant.1.0)
 
-pub overflow_mul-weighted-in-loop-class : goal.overflow_mul-weighted-in-loop-class
-overflow_mul-weighted-in-loop-class c =
-    let t = turn c.loop-class.class c.requires.fact_2 c.loop-class-test.true c.loop-class.invariant.1.0 c.nearest_wh-rounded.ensures in
-    product-fits (lost-cell t) c.signed-in-loop-class.ensures
+pub overflow_mul-weighted-in-loop-pair : goal.overflow_mul-weighted-in-loop-pair
+overflow_mul-weighted-in-loop-pair c =
+    let t = turn c.loop-pair.pair c.requires c.told-cells c.told-weights (omega arith) c.nearest_wh-rounded.ensures in
+    product-fits (lost-cell t) c.from-in-loop-pair.ensures
 
-pub overflow_add-weighted-in-loop-class : goal.overflow_add-weighted-in-loop-class
-overflow_add-weighted-in-loop-class c =
-    let t = turn c.loop-class.class c.requires.fact_2 c.loop-class-test.true c.loop-class.invariant.1.0 c.nearest_wh-rounded.ensures in
-    weighted-fits (lost-cell t) c.signed-in-loop-class.ensures
-    (next-weighted (used-cell t) c.signed.ensures (running-held c.loop-class.weighted-bits c.loop-class.invariant.1.1.1.0))
+pub overflow_add-weighted-in-loop-pair : goal.overflow_add-weighted-in-loop-pair
+overflow_add-weighted-in-loop-pair c =
+    let t = turn c.loop-pair.pair c.requires c.told-cells c.told-weights (omega arith) c.nearest_wh-rounded.ensures in
+    weighted-fits (lost-cell t) c.from-in-loop-pair.ensures
+    (next-weighted (used-cell t) c.from.ensures (running-held c.loop-pair.weighted-bits c.loop-pair.invariant.1.0))
 
-pub loop-class-preserved : goal.loop-class-preserved
-loop-class-preserved c =
-    let t = turn c.loop-class.class c.requires.fact_2 c.loop-class-test.true c.loop-class.invariant.1.0 c.nearest_wh-rounded.ensures in
-    let l = c.loop-class in
-    let i = l.class in
-    let two : i + 1 + 1 ≡ i + 2 = omega arith in
-    let used-weighted = next-weighted (used-cell t) c.signed.ensures (running-held l.weighted-bits l.invariant.1.1.1.0) in (
-      omega arith,
+pub loop-pair-preserved : goal.loop-pair-preserved
+loop-pair-preserved c =
+    let t = turn c.loop-pair.pair c.requires c.told-cells c.told-weights (omega arith) c.nearest_wh-rounded.ensures in
+    let l = c.loop-pair in
+    let i = 2 * l.pair in
+    let two : 2 * (l.pair + 1) ≡ i + 2 = omega arith in
+    let twice : i + 1 + 1 ≡ i + 2 = omega arith in
+    let used-weighted = next-weighted (used-cell t) c.from.ensures (running-held l.weighted-bits l.invariant.1.0) in
+    rw two (
+      held-running (next-net (used-cell t) (lost-cell t) (running-held l.net-bits l.invariant.0) t.even (directed-is t c.by_direction-net.ensures)),
       (
-        omega arith,
-        (
-          held-running (next-net (used-cell t) (lost-cell t) (running-held l.net-bits l.invariant.1.1.0) t.even (directed-is t c.by_direction-net.ensures)),
-          (
-            held-running (rw two at (next-weighted (lost-cell t) c.signed-in-loop-class.ensures used-weighted)),
-            held-running
-                (next-droppings _ _ t.args.cells-long (loss-inside t) t.even (running-held l.droppings-bits l.invariant.1.1.1.1) (dropped-is t) (signed_is t c.by_direction-droppings.ensures)),
-          ),
-        ),
+        held-running (rw twice at (next-weighted (lost-cell t) c.from-in-loop-pair.ensures used-weighted)),
+        held-running
+            (next-droppings _ _ t.cells-long (loss-inside t) t.even (running-held l.droppings-bits l.invariant.1.1) (dropped-is t) (signed_is t c.by_direction-droppings.ensures)),
       ),
     )
 
 pub returns : goal.returns
 returns c =
-    let l = c.loop-class in
-    let i = l.invariant.1.1 in
-    result _ _ l.class l.net-bits l.weighted-bits l.droppings-bits c.requires.fact_2 c.loop-class-test.false i.0 i.1.0 i.1.1
+    let l = c.loop-pair in
+    let i = l.invariant in
+    result _ _ (2 * l.pair) l.net-bits l.weighted-bits l.droppings-bits c.told-cells (omega arith) i.0 i.1.0 i.1.1

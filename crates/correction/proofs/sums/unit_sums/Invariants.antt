@@ -1,9 +1,9 @@
--- `unit_sums` meets its contract. The loop's invariant: n and a are those of the cells passed, which are whole pairs. Assumes nothing.
-use Prim.Native.Nat.{ℕ, ◌-◌, ◌*◌, ◌%◌, ◌≤◌}
+-- `unit_sums` meets its contract. The loop's invariant: n and a are those of the pairs of cells passed. Assumes nothing.
+use Prim.Native.Nat.{ℕ, ◌*◌, ◌≤◌}
 use mathlib.Core.Path.{◌≡◌}
-use mathlib.Core.List.{List, []}
+use mathlib.Core.List.{List}
 use lib.IntN.{ℤ, nat_abs}
-use lib.ListN.{take, get_or}
+use lib.ListN.{take}
 use Rattle.correction.specs.Correction.{net_of, weighted_of}
 use Rattle.correction.specs.Helpers.{rounded_from, dropped_from}
 use Rattle.correction.proofs.sums.unit_sums.Given as goal
@@ -23,10 +23,7 @@ WeightedRuns cells weights i weighted = Running weighted (weighted_of (take i (r
 abbrev pub DroppedRuns : List ℤ → ℕ → ℤ → Type 0
 DroppedRuns cells i droppings = Running droppings (net_of 0 (take i (dropped_from 0 cells))) (i * 250)
 
-abbrev pub invariant-loop-class : goal.invariant-loop-class
-invariant-loop-class l =
-    let row = get_or l.cells l.unit [] in
-    (l.class ≤ 24) × ((l.class % 2 ≡ 0) × (NetRuns row l.class l.net × (WeightedRuns row l.weights l.class l.weighted × DroppedRuns row l.class l.droppings)))
-
-abbrev pub decreases-loop-class : goal.decreases-loop-class
-decreases-loop-class l = 24 - l.class
+abbrev pub invariant-loop-pair : goal.invariant-loop-pair
+invariant-loop-pair l =
+    let i = 2 * l.pair in
+    NetRuns l.cells i l.net × (WeightedRuns l.cells l.weights i l.weighted × DroppedRuns l.cells i l.droppings)

@@ -1,20 +1,14 @@
-use native.Mathlib.Omega.{arith}
-use borrow.Author.Rules.{rules}
-use Rattle.period_file.proofs.FieldsOf.{none-counted, comma-counted, byte-passed, all-counted}
+-- `field_count` counts the parts between commas, which are the fields.
+use mathlib.Core.Path.{◌∙◌}
+use Rattle.std.proofs.Common.{rules}
+use borrow.Author.Tests.{tests}
+use Rattle.std.proofs.lemmas.Iterator.Consumers.{count_from_yields_List}
+use Rattle.std.proofs.lemmas.Iterator.Splits.{YieldsList-from_slice_split}
+use Rattle.period_file.proofs.FieldsOf.{is_comma, parts-counted}
 use Rattle.period_file.proofs.fields.field_count.Goals as goal
-use Rattle.period_file.proofs.fields.field_count.Goals.{then-text-i-eq-COMMA, else-text-i-eq-COMMA}
-
-pub loop-i-init : goal.loop-i-init
-loop-i-init c = (search rules, none-counted _)
-
-pub loop-i-preserved : goal.loop-i-preserved
-loop-i-preserved c = (
-  omega arith,
-  elim c.if-text-i-eq-COMMA.branch [
-    | then-text-i-eq-COMMA w ↦ rw w.commas-is (comma-counted _ _ _ (search rules) w.if-text-i-eq-COMMA.true c.loop-i.invariant.1)
-    | else-text-i-eq-COMMA w ↦ rw w.commas-is (byte-passed _ _ _ (search rules) w.if-text-i-eq-COMMA.false c.loop-i.invariant.1)
-  ],
-)
 
 pub returns : goal.returns
-returns c = all-counted _ _ _ (omega arith) c.loop-i.invariant.1
+returns c =
+    count_from_yields_List c.split.result _ c.count.ensures.ran
+    (YieldsList-from_slice_split _ is_comma c.args.text.now c.split.ensures.rest c.split.ensures.done c.split.ensures.closure (λ x b q k. search (rules, tests)))
+    ∙ parts-counted c.args.text.now

@@ -1,12 +1,12 @@
--- `put_volumes` prints the volumes one by one: those from `i` on are left.
-use Prim.Native.Nat.{◌≤◌, ◌-◌, ◌+◌, ◌*◌}
-use mathlib.Core.Path.{◌≡◌}
-use lib.ListN.{length}
-use Rattle.report.proofs.Volumes.{VolumesLeft}
+-- `put_volumes` prints the volumes one by one: those below `unit` are printed.
+use Rattle.std.proofs.Common.{◌+◌, ◌*◌, ◌≤◌, take}
+use Rattle.arrayvec.specs.ArrayVec.{array_vec_len, Extends}
+use Rattle.report.specs.Lines.{volume_lines}
 use Rattle.report.proofs.lines.put_volumes.Given as goal
 
-abbrev pub invariant-loop-i : goal.invariant-loop-i
-invariant-loop-i l = (l.i ≤ length l.volumes) × (l.at ≤ l.used + 50 * l.i) × (length l.out ≡ length l.initial.out) × VolumesLeft l.initial.out l.used l.volumes l.out l.at l.i
-
-abbrev pub decreases-loop-i : goal.decreases-loop-i
-decreases-loop-i l = length l.volumes - l.i
+abbrev pub invariant-loop-unit : goal.invariant-loop-unit
+invariant-loop-unit g l =
+    record {
+      text : Extends l.initial.out (volume_lines 0 (take l.unit l.volumes)) l.out;
+      short : array_vec_len l.out ≤ array_vec_len l.initial.out + 50 * l.unit;
+    }

@@ -1,18 +1,18 @@
-use Rattle.std.proofs.KnownBytes.{Appends-kept}
+use Rattle.std.proofs.Common.{refl, arith}
+use Rattle.std.proofs.lemmas.Grind.{common_steps}
 use Rattle.std.proofs.lemmas.Result.{err_from_is_err_and}
-use Rattle.settle_run.proofs.Streams.{written_on, some-up-to}
+use Rattle.settle_run.proofs.Streams.{none-written, written_on, some-kept}
 use Rattle.settle_run.proofs.output.write_out.Goals as goal
 
-pub loop-preserved : goal.loop-preserved
-loop-preserved g c =
-    record {
-      within = c.in_ok-done.ensures.bound;
-      written = written_on _ _ _ _ c.loop.done _ c.in_ok-done.ensures.forward c.loop.invariant.written c.in_ok-done.ensures.written;
-    }
+pub loop-init : goal.loop-init
+loop-init g c = (none-written _ _, refl)
 
-pub returns-in_err-done-clause-err : goal.returns-in_err-done-clause-err
-returns-in_err-done-clause-err g c =
-    let p = err_from_is_err_and c.from_residual.result c.from_residual.ensures.1 in rw p.1 (some-up-to _ _ _ c.loop.done (Appends-kept _ _ _ _ c.loop.invariant.written c.in_err-done.ensures.err))
+pub loop-preserved : goal.loop-preserved
+loop-preserved g c = written_on _ _ _ _ _ _ _ c.loop.invariant.0 c.loop.invariant.1 c.in_ok-n.ensures.written (grind (arith, common_steps))
+
+pub returns-in_err-n-clause-err : goal.returns-in_err-n-clause-err
+returns-in_err-n-clause-err g c =
+    let p = err_from_is_err_and c.from_residual.result c.from_residual.ensures.1 in rw p.1 (some-kept _ _ _ _ c.loop.invariant.0 c.in_err-n.ensures.err)
 
 pub returns-clause-err : goal.returns-clause-err
-returns-clause-err g c = some-up-to _ _ _ c.loop.done c.loop.invariant.written
+returns-clause-err g c = c.loop.invariant.0

@@ -1,131 +1,53 @@
 -- `add_meter` meets its contract: an idle meter changes nothing, and any other changes two words of its tariff, which are different and far from the width's end. Assumes nothing.
 use Prim.Native.Nat.{ℕ, ◌+◌, ◌*◌, ◌^◌, ◌<◌}
-use mathlib.Core.Path.{◌≡◌, sym, ◌∙◌}
+use mathlib.Core.Path.{◌≡◌, refl, sym, ◌∙◌}
+use mathlib.Core.Bool.{true, false}
 use mathlib.Core.List.{List}
 use native.Mathlib.Omega.{arith}
-use borrow.Author.Tests.{eq-eqb, ne_eqb}
-use lib.ListN.{length, get_or, length-set}
-use lib.Seq.{get_or-set_other}
-use Rattle.words.specs.Registration.{status_of, tariff_of}
+use lib.ListN.{get_or}
+use Rattle.words.specs.Registration.{tariff_of}
+use denote.Enum.Bare.{sameb}
+use Rattle.cells.specs.contracts.Source.{the_type}
 use Rattle.cells.specs.declared.Use.{Use}
-use Rattle.totals.specs.Totals.{totals_words}
-use Rattle.cells.specs.Helpers.{estimate_of}
-use Rattle.cells.proofs.OneMore.{estimate-few, estimate-zero, estimate-one}
+use Rattle.cells.specs.declared.Source.{Source}
+use Rattle.cells.specs.declared.Source.TheVariants.{Actual, Estimated, Defaulted, Idle}
+use Rattle.cells.specs.Cells.{estimate_bit}
+use Rattle.cells.specs.Helpers.{wh_of}
+use Rattle.cells.proofs.RowBounds.{estimate-most}
+use Rattle.totals.specs.Totals.{totals_words, is_idle}
 use Rattle.totals.specs.Helpers.{increased, count_word, with_meter, AddArguments}
-use Rattle.totals.proofs.OneMore.{count-word-bound}
 use Rattle.totals.proofs.totals.add_meter.Goals as goal
-use Rattle.totals.proofs.totals.add_meter.Goals.{then-meter-eq-ACTUAL, else-meter-eq-ACTUAL, then-status-eq-ENERGISED, else-status-eq-ENERGISED}
 
-module _ (totals : List ℕ) (registration : ℕ) (used : Use) (ok : AddArguments totals used) {first energy count : ℕ} (f : first ≡ 4 * tariff_of registration) (e : energy ≡ estimate_of used.source) (d : count ≡ count_word registration) where
+module _ (totals : List ℕ) (registration : ℕ) (used : Use) (ok : AddArguments totals used)
+    {first energy count wh : ℕ} (f : first ≡ 4 * tariff_of registration) (e : energy ≡ estimate_bit used.source) (d : count ≡ count_word registration) (w : wh ≡ wh_of used) where
   energy-place : first + energy < totals_words
-  energy-place = omega (arith, estimate-few used.source)
+  energy-place = omega (arith, estimate-most used.source)
 
-  count-place : first + count < totals_words
-  count-place = omega (arith, count-word-bound registration)
+  energy-fits : get_or totals (first + energy) 0 + wh < 2 ^ 64
+  energy-fits = omega (arith, ok.words-bound (first + energy) energy-place, ok.wh-bound)
 
-  energy-asks : (first + energy < length totals) × (get_or totals (first + energy) 0 + used.wh < 2 ^ 64)
-  energy-asks = (omega (arith, energy-place, ok.long), omega (arith, ok.words-bound (first + energy) energy-place, ok.wh-bound))
-
-  -- the word that counts the meter is not the one that was changed
-  count-asks : {after : List ℕ} → after ≡ increased totals (first + energy) used.wh → (first + count < length after) × (get_or after (first + count) 0 + 1 < 2 ^ 64)
-  count-asks s =
-      let other : first + count ≡ first + energy → ⊥ = λ q. omega (arith, estimate-few used.source, count-word-bound registration) in
-      rw s (
-        rw length-set (omega (arith, count-place, ok.long)),
-        rw (get_or-set_other totals (first + energy) (first + count) (get_or totals (first + energy) 0 + used.wh) 0 other) (omega (arith, ok.words-bound (first + count) count-place)),
-      )
-
-  both-added : (used.source ≡ 3 → ⊥) → {between after : List ℕ} → between ≡ increased totals (first + energy) used.wh → after ≡ increased between (first + count) 1 → after ≡ with_meter totals registration used
+  both-added : is_idle used.source ≡ false → increased (increased totals (first + energy) wh) (first + count) 1 ≡ with_meter totals registration used
   unfolding with_meter
-  both-added busy s t = t ∙ rw (s, f, e, d, ne_eqb used.source 3 busy)
+  both-added busy = rw (busy, f, e, d, w)
 
--- the word that counts, whichever way the test went
-count-two : (registration : ℕ) {status count : ℕ} → count ≡ 2 → status ≡ status_of registration → status ≡ 2 → count ≡ count_word registration
-count-two registration z e s = z ∙ rw (eq-eqb (status_of registration) 2 (sym e ∙ s))
+-- what the code's test of the source tells
+idle-test : (s : Source) → sameb the_type s Idle ≡ is_idle s
+unfolding is_idle
+idle-test Actual = refl
+idle-test Estimated = refl
+idle-test Defaulted = refl
+idle-test Idle = refl
 
-count-three : (registration : ℕ) {status count : ℕ} → count ≡ 3 → status ≡ status_of registration → (status ≡ 2 → ⊥) → count ≡ count_word registration
-count-three registration z e s = z ∙ rw (ne_eqb (status_of registration) 2 (λ q. s (e ∙ q)))
-
-pub returns-then-meter-eq-IDLE : goal.returns-then-meter-eq-IDLE
+pub returns-then-eq : goal.returns-then-eq
 unfolding with_meter
-returns-then-meter-eq-IDLE c = rw (eq-eqb _ 3 c.if-meter-eq-IDLE.true)
+returns-then-eq c =
+    let idle : is_idle c.args.meter.source ≡ true = sym (idle-test c.args.meter.source) ∙ sym c.eq.ensures ∙ c.if-eq.true in
+    rw idle
 
-pub overflow_add-first : goal.overflow_add-first
-overflow_add-first c =
-    let e : c.if-meter-eq-ACTUAL.energy ≡ estimate_of c.args.meter.source =
-    elim c.if-meter-eq-ACTUAL.branch [
-      | then-meter-eq-ACTUAL w ↦ estimate-zero _ w.energy-is w.if-meter-eq-ACTUAL.true
-      | else-meter-eq-ACTUAL w ↦ estimate-one _ w.energy-is w.if-meter-eq-ACTUAL.false
-    ]
-    in
-    let d : c.if-status-eq-ENERGISED.count ≡ count_word c.args.registration =
-    elim c.if-status-eq-ENERGISED.branch [
-      | then-status-eq-ENERGISED w ↦ count-two _ w.count-is c.status.ensures w.if-status-eq-ENERGISED.true
-      | else-status-eq-ENERGISED w ↦ count-three _ w.count-is c.status.ensures w.if-status-eq-ENERGISED.false
-    ]
-    in
-    omega (arith, energy-place _ _ _ c.requires c.first_word-first.ensures e d)
-
-pub add-requires : goal.add-requires
-add-requires c =
-    let e : c.if-meter-eq-ACTUAL.energy ≡ estimate_of c.args.meter.source =
-    elim c.if-meter-eq-ACTUAL.branch [
-      | then-meter-eq-ACTUAL w ↦ estimate-zero _ w.energy-is w.if-meter-eq-ACTUAL.true
-      | else-meter-eq-ACTUAL w ↦ estimate-one _ w.energy-is w.if-meter-eq-ACTUAL.false
-    ]
-    in
-    let d : c.if-status-eq-ENERGISED.count ≡ count_word c.args.registration =
-    elim c.if-status-eq-ENERGISED.branch [
-      | then-status-eq-ENERGISED w ↦ count-two _ w.count-is c.status.ensures w.if-status-eq-ENERGISED.true
-      | else-status-eq-ENERGISED w ↦ count-three _ w.count-is c.status.ensures w.if-status-eq-ENERGISED.false
-    ]
-    in
-    energy-asks _ _ _ c.requires c.first_word-first.ensures e d
-
-pub overflow_add-first-2 : goal.overflow_add-first-2
-overflow_add-first-2 c =
-    let e : c.if-meter-eq-ACTUAL.energy ≡ estimate_of c.args.meter.source =
-    elim c.if-meter-eq-ACTUAL.branch [
-      | then-meter-eq-ACTUAL w ↦ estimate-zero _ w.energy-is w.if-meter-eq-ACTUAL.true
-      | else-meter-eq-ACTUAL w ↦ estimate-one _ w.energy-is w.if-meter-eq-ACTUAL.false
-    ]
-    in
-    let d : c.if-status-eq-ENERGISED.count ≡ count_word c.args.registration =
-    elim c.if-status-eq-ENERGISED.branch [
-      | then-status-eq-ENERGISED w ↦ count-two _ w.count-is c.status.ensures w.if-status-eq-ENERGISED.true
-      | else-status-eq-ENERGISED w ↦ count-three _ w.count-is c.status.ensures w.if-status-eq-ENERGISED.false
-    ]
-    in
-    omega (arith, count-place _ _ _ c.requires c.first_word-first.ensures e d)
-
-pub add-requires-2 : goal.add-requires-2
-add-requires-2 c =
-    let e : c.if-meter-eq-ACTUAL.energy ≡ estimate_of c.args.meter.source =
-    elim c.if-meter-eq-ACTUAL.branch [
-      | then-meter-eq-ACTUAL w ↦ estimate-zero _ w.energy-is w.if-meter-eq-ACTUAL.true
-      | else-meter-eq-ACTUAL w ↦ estimate-one _ w.energy-is w.if-meter-eq-ACTUAL.false
-    ]
-    in
-    let d : c.if-status-eq-ENERGISED.count ≡ count_word c.args.registration =
-    elim c.if-status-eq-ENERGISED.branch [
-      | then-status-eq-ENERGISED w ↦ count-two _ w.count-is c.status.ensures w.if-status-eq-ENERGISED.true
-      | else-status-eq-ENERGISED w ↦ count-three _ w.count-is c.status.ensures w.if-status-eq-ENERGISED.false
-    ]
-    in
-    count-asks _ _ _ c.requires c.first_word-first.ensures e d c.add.ensures
+pub overflow_add-totals : goal.overflow_add-totals
+overflow_add-totals c = omega (arith, energy-fits _ _ _ c.requires c.first_word-first.ensures c.estimate_bit.ensures c.count_word.ensures c.unwrap_or.ensures)
 
 pub returns : goal.returns
 returns c =
-    let e : c.if-meter-eq-ACTUAL.energy ≡ estimate_of c.args.meter.source =
-    elim c.if-meter-eq-ACTUAL.branch [
-      | then-meter-eq-ACTUAL w ↦ estimate-zero _ w.energy-is w.if-meter-eq-ACTUAL.true
-      | else-meter-eq-ACTUAL w ↦ estimate-one _ w.energy-is w.if-meter-eq-ACTUAL.false
-    ]
-    in
-    let d : c.if-status-eq-ENERGISED.count ≡ count_word c.args.registration =
-    elim c.if-status-eq-ENERGISED.branch [
-      | then-status-eq-ENERGISED w ↦ count-two _ w.count-is c.status.ensures w.if-status-eq-ENERGISED.true
-      | else-status-eq-ENERGISED w ↦ count-three _ w.count-is c.status.ensures w.if-status-eq-ENERGISED.false
-    ]
-    in
-    both-added _ _ _ c.requires c.first_word-first.ensures e d c.if-meter-eq-IDLE.false c.add.ensures c.add-2.ensures
+    both-added _ _ _ c.requires c.first_word-first.ensures c.estimate_bit.ensures c.count_word.ensures c.unwrap_or.ensures
+    (sym (idle-test c.args.meter.source) ∙ sym c.eq.ensures ∙ c.if-eq.false)

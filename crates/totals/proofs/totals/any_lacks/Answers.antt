@@ -1,34 +1,25 @@
-use Prim.Native.Nat.{ℕ, ◌+◌, ◌*◌}
+use Prim.Native.Nat.{ℕ, ◌+◌, ◌<◌}
 use mathlib.Core.Path.{◌≡◌, refl, sym}
-use mathlib.Core.Bool.{Bool, false, ◌||◌}
-use mathlib.Core.List.{List}
-use native.Mathlib.Omega.{arith}
-use Rattle.book.specs.Rows.{rows_of}
-use Rattle.book.proofs.RowsOf.{row_at}
+use mathlib.Core.Bool.{Bool, ◌||◌}
+use mathlib.Core.List.{List, map}
+use lib.ListN.{length, take}
+use Rattle.std.proofs.lemmas.List.{take_all}
+use Rattle.book.specs.Rows.{first_row}
 use Rattle.cells.specs.Energy.{lacks_shape, any_lacks_shape}
-use Rattle.cells.proofs.OneMore.{rows_more, lacks-more}
+use Rattle.cells.proofs.Turns.{this_row, rows_next}
+use Rattle.cells.proofs.OneMore.{lacks-more}
 use Rattle.totals.proofs.totals.any_lacks.Goals as goal
 
--- before the first turn
-none-lacks : (shapes words : List ℕ) → false ≡ any_lacks_shape shapes (rows_of 0 words)
-unfolding rows_of any_lacks_shape
-none-lacks shapes words = refl
+one_more : (shapes : List ℕ) (rows : List (List ℕ)) (i : ℕ) → i < length rows → {lacks missing : Bool} → lacks ≡ any_lacks_shape shapes (map first_row (take i rows))
+    → missing ≡ lacks_shape shapes (this_row rows i).registration (this_row rows i).reading → (lacks || missing) ≡ any_lacks_shape shapes (map first_row (take (i + 1) rows))
+one_more shapes rows i h a b = rw (a, b, rows_next rows i h) (sym (lacks-more shapes (map first_row (take i rows)) (this_row rows i)))
 
--- a turn: row i
-one_more : (shapes words : List ℕ) (i : ℕ) {lacks missing : Bool} → lacks ≡ any_lacks_shape shapes (rows_of i words)
-    → missing ≡ lacks_shape shapes (row_at words (3 * i)).registration (row_at words (3 * i)).reading → (lacks || missing) ≡ any_lacks_shape shapes (rows_of (i + 1) words)
-one_more shapes words i a b = rw (a, b, rows_more i words) (sym (lacks-more shapes (rows_of i words) (row_at words (3 * i))))
+pub loop-registration-init : goal.loop-registration-init
+unfolding any_lacks_shape
+loop-registration-init c = refl
 
-pub loop-i-init : goal.loop-i-init
-loop-i-init c = (omega arith, none-lacks _ _)
-
-pub lacks_shape-missing-requires : goal.lacks_shape-missing-requires
-lacks_shape-missing-requires c = c.requires.fact_2
-
-pub loop-i-preserved : goal.loop-i-preserved
-loop-i-preserved c = (omega arith, one_more _ _ _ c.loop-i.invariant.1 c.lacks_shape-missing.ensures)
+pub loop-registration-preserved : goal.loop-registration-preserved
+loop-registration-preserved c = one_more _ _ _ c.loop-registration-test.true c.loop-registration.invariant c.lacks_shape-lacks.ensures
 
 pub returns : goal.returns
-returns c =
-    let e : c.loop-i.i ≡ c.args.n = omega arith in
-    rw e at c.loop-i.invariant.1
+returns c = rw (take_all c.loop-registration.registration-index c.args.rows.now c.loop-registration-test.false) at c.loop-registration.invariant

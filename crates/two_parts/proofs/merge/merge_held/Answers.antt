@@ -7,7 +7,7 @@ use Rattle.two_parts.proofs.Merging.{merging-starts, one_placed, all_placed}
 use Rattle.two_parts.proofs.merge.merge_held.Goals as goal
 
 pub overflow_add-at : goal.overflow_add-at
-overflow_add-at c = omega (arith, both-fit c.requires.fact_1, c.well_formed)
+overflow_add-at c = omega (arith, both-fit c.requires.ready, c.well_formed)
 
 pub loop-left-init : goal.loop-left-init
 loop-left-init c = merging-starts c.args.first c.args.later c.args.rows.now c.args.held.now
@@ -18,19 +18,19 @@ place_last-left-requires c =
     let within = inv.within_first in
     let held = inv.within_held in
     record {
-      fact_1 = omega arith;
-      fact_2 = omega (arith, inv.same_length, both-fit c.requires.fact_1);
-      fact_3 = omega (arith, c.requires.fact_2);
+      left_first = omega arith;
+      place_within = omega (arith, inv.same_length, both-fit c.requires.ready);
+      held_within = omega (arith, c.requires.held_within);
     }
 
 pub loop-left-preserved : goal.loop-left-preserved
 loop-left-preserved c =
     let at = c.loop-left.at - 1 in
     let e : c.loop-left.at ≡ suc at = omega arith in
-    one_placed c.args.first c.args.later c.args.rows.now c.args.held.now c.requires.fact_1 c.requires.fact_3 c.loop-left.left at c.loop-left.rows
+    one_placed c.args.first c.args.later c.args.rows.now c.args.held.now c.requires.ready c.requires.copied c.loop-left.left at c.loop-left.rows
     (rw e at c.loop-left.invariant) (omega arith) c.place_last-left.ensures
 
 pub returns : goal.returns
 returns c =
-    all_placed c.args.first c.args.later c.args.rows.now c.args.held.now c.requires.fact_1 c.requires.fact_3 c.loop-left.left c.loop-left.at c.loop-left.rows
+    all_placed c.args.first c.args.later c.args.rows.now c.args.held.now c.requires.ready c.requires.copied c.loop-left.left c.loop-left.at c.loop-left.rows
     c.loop-left.invariant (omega arith)
