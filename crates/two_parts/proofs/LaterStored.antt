@@ -21,6 +21,7 @@ use Rattle.book.proofs.WellFormed.{room}
 use Rattle.book.proofs.Written.{written_same, length-written, rows-of-written}
 use Rattle.two_parts.specs.TwoParts.{merged, later_rows, PartsReady}
 use Rattle.two_parts.specs.Apart.{meters_after}
+use Rattle.two_parts.proofs.AsOne.{both-fit}
 use Rattle.two_parts.proofs.LentPart.{part_after, put_after, part_length, part-capacity, part-rows, put-length, put_first, put-later, put-tail}
 use Rattle.two_parts.proofs.Merged.{held-merged-later}
 use Rattle.two_parts.proofs.StoredApart.{tail_written, whole, LeavesApart, refused-apart, accepted-apart}
@@ -32,6 +33,9 @@ later-count first later words = length-rows later (drop (3 * first) words)
 -- the rows up to the capacity end within the slice
 pub end-within : {cap : ℕ} (words : List ℕ) → cap ≡ capacity words → 3 * cap ≤ length words
 end-within {cap} words e = room words cap (omega (arith, e))
+
+-- that both parts, and the rows up to the capacity, end within the slice, for the search for a proof
+pub ruleset ends = (both-fit, end-within)
 
 -- a meter whose row a search found is known, and any other is not
 module _ (m : ℕ) (rows : List Row) {place : Result ℕ ℕ} (e : place ≡ place_in m rows) where

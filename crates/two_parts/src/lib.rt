@@ -26,6 +26,7 @@ pub struct Parts<'a> {
 
 impl<'a> Parts<'a> {
     // The rows of a book as the first part, with none in the second.
+    // Kept: the words and how many rows are in use come side by side, as in `book::rows`.
     pub fn new(rows: &'a mut [u64], meters: usize) -> Parts<'a>
         requires { RowsReady meters rows.old }
         ensures same_slice { result.rows.ghost_name ≡ rows.entry.ghost_name }

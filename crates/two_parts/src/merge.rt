@@ -1,4 +1,5 @@
 // The two parts merged in place, from the back: no row of the first part is overwritten before it has moved.
+// Kept: while rows move, the slice is not two parts, so that its lengths are passed beside it and not in a `Parts`.
 ghost use Rattle.std.specs.Prelude.{◌≡◌, ◌+◌, ◌*◌, ◌-◌, ◌≤◌, ◌<◌, length};
 ghost use Rattle.book.specs.Rows.{rows_of};
 ghost use Rattle.two_parts.specs.TwoParts.{later_rows, as_one, later_most, PartsReady};

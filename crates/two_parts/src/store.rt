@@ -57,6 +57,7 @@ impl Parts<'_> {
         row_capacity(self.rows)
     }
 
+    #[tactic(auto, using(crate::proofs::LaterStored::ends))]
     // Stores or replaces a meter's registration. A meter of the first part keeps its place, and any other is the second part's. That
     // part is lent up to the book's capacity, so it is full exactly when the book is. Where it has its most rows, the parts are merged.
     pub fn register(&mut self, mpan: u64, registration: Registration) -> Result<Stored, Refusal>
@@ -90,6 +91,7 @@ impl Parts<'_> {
         counted(outcome, meters)
     }
 
+    #[tactic(auto, using(crate::proofs::LaterStored::ends))]
     // Stores a meter's reading if its issue is above the one held. Nothing is said of the row to try first the next time, since any is right.
     // Kept: it goes by the parts as `register` does; a closure for what book stores, lent a part, takes a contract longer than what it spares.
     pub fn record(&mut self, mpan: u64, reading: Reading) -> Result<Stored, Refusal>

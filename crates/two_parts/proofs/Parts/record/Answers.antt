@@ -7,7 +7,7 @@ use Rattle.book.specs.Helpers.{reading_storing}
 use Rattle.book.proofs.Placed.{known-is, index-is}
 use Rattle.book.proofs.PlaceOf.{place-within-in}
 use Rattle.two_parts.proofs.AsOne.{both-fit}
-use Rattle.two_parts.proofs.LaterStored.{end-within, not-found, lent-place}
+use Rattle.two_parts.proofs.LaterStored.{not-found, lent-place}
 use Rattle.two_parts.proofs.RecordedApart.{recorded-first, recorded-later, recorded-most}
 use Rattle.two_parts.proofs.StoredApart.{LeavesApart}
 use Rattle.two_parts.proofs.Parts.record.Goals as goal
@@ -25,18 +25,6 @@ pub returns-in-Ok-clause-stored : goal.returns-in-Ok-clause-stored
 returns-in-Ok-clause-stored c =
     let l = recorded-first _ _ _ c.args.self.now.ready _ _ (known-is _ _ c.in-Ok.ensures refl) c.store_reading-outcome.ensures in
     rw (c.counted.ensures, c.meters-meters.ensures) (record { same_slice = refl; stores = l.stores; counted = l.meters })
-
-pub overflow_mul-start : goal.overflow_mul-start
-overflow_mul-start c = omega (arith, both-fit c.args.self.now.ready)
-
-pub overflow_mul-end : goal.overflow_mul-end
-overflow_mul-end c = omega (arith, end-within c.args.self.now.rows.now c.capacity-end.ensures)
-
-pub offset_bounds-self-start : goal.offset_bounds-self-start
-offset_bounds-self-start c = omega (arith, both-fit c.args.self.now.ready)
-
-pub slice_bounds-part-end : goal.slice_bounds-part-end
-slice_bounds-part-end c = omega (arith, end-within c.args.self.now.rows.now c.capacity-end.ensures)
 
 pub store_reading-outcome-requires-2 : goal.store_reading-outcome-requires-2
 store_reading-outcome-requires-2 c =

@@ -10,7 +10,7 @@ use Rattle.book.specs.Helpers.{registration_storing}
 use Rattle.book.proofs.Storing.{asked-refused, asked-stores}
 use Rattle.two_parts.specs.TwoParts.{as_one}
 use Rattle.two_parts.proofs.AsOne.{both-fit, as-one-ready, as-one-capacity, merged-same, merged-ready}
-use Rattle.two_parts.proofs.LaterStored.{end-within, found-known, lent-place}
+use Rattle.two_parts.proofs.LaterStored.{found-known, lent-place}
 use Rattle.two_parts.proofs.RegisteredApart.{registered-there, registered-apart, registered-most}
 use Rattle.two_parts.proofs.StoredApart.{LeavesApart}
 use Rattle.two_parts.proofs.Parts.register.Goals as goal
@@ -47,18 +47,6 @@ pub returns-then-is_ok-clause-stored : goal.returns-then-is_ok-clause-stored
 returns-then-is_ok-clause-stored c =
     let l = there (goal.at.returns-then-is_ok-clause-stored c).After-store_registration-outcome in
     rw (c.counted.ensures, c.meters-meters.ensures) (record { same_slice = refl; stores = l.stores; counted = l.meters })
-
-pub overflow_mul-start : goal.overflow_mul-start
-overflow_mul-start c = omega (arith, both-fit c.args.self.now.ready)
-
-pub overflow_mul-end : goal.overflow_mul-end
-overflow_mul-end c = omega (arith, end-within c.args.self.now.rows.now c.capacity-end.ensures)
-
-pub offset_bounds-rows-start : goal.offset_bounds-rows-start
-offset_bounds-rows-start c = omega (arith, both-fit c.args.self.now.ready)
-
-pub slice_bounds-part-end : goal.slice_bounds-part-end
-slice_bounds-part-end c = omega (arith, end-within c.args.self.now.rows.now c.capacity-end.ensures)
 
 pub store_registration-outcome-requires-2 : goal.store_registration-outcome-requires-2
 store_registration-outcome-requires-2 c =
