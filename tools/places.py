@@ -3,7 +3,8 @@
 
 `python3 tools/places.py [POINT ..] [--list]` at the top counts the places in crates/*/src, crate by crate, and with --list
 prints them. It goes by text: a place is one to look at, and one that stays has its reason beside it, in a line `// Kept: `, in its
-function, at most sixteen lines above it, or at the head of its file. Those without are marked `no reason`.
+function, at most sixteen lines above it, or at the head of its file. Those without are marked `no reason`. What stands together (5) has
+no line of its own: the page lists it with the reasons.
 
 1  fields that are a flag or a number beside a value, sets of numbers for kinds, states or refusals, enums of the shape of Option,
    and functions that answer or take such a number
@@ -196,7 +197,8 @@ for point in points:
     crates = collections.Counter(c for c, _ in found)
     placed = [(what, re.match(r'(crates/\S+?\.rt):(\d+): ', what)) for _, what in found]
     without = {what for what, m in placed if m and not has_reason(pathlib.Path(m.group(1)), int(m.group(2)))}
-    print('%s: %d, no reason %d  %s' % (point, len(found), len(without), ', '.join('%s %d' % (c, n) for c, n in crates.items() if c != '-')))
+    unexplained = ', no reason %d' % len(without) if any(m for _, m in placed) else ''
+    print('%s: %d%s  %s' % (point, len(found), unexplained, ', '.join('%s %d' % (c, n) for c, n in crates.items() if c != '-')))
     if listed:
         for _, what in found:
             print('   ' + what + ('  (no reason)' if what in without else ''))

@@ -18,11 +18,15 @@ function print_field(line) {
     print "field", structure, without(":.*", line), without("^[^:]*: *", line)
 }
 
-# A line `pub const NAME: type = value;`.
-function print_constant(line,    value) {
+# A line `pub const NAME: type = value;`, where the value is a number, or a number times a constant that stands above.
+function print_constant(line,    name, value, factors) {
+    name = without(":.*", without("^ *pub const ", line))
     value = without(";.*", without(".*= *", line))
+    if (split(value, factors, " [*] ") == 2)
+        value = factors[1] * constants[factors[2]]
     gsub("_", "", value)
-    print "const", without(":.*", without("^ *pub const ", line)), value
+    constants[name] = value
+    print "const", name, value
 }
 
 # A line `Name = value,` of an enum. The constant is NAME for a refusal, and KIND_NAME for a kind of call.

@@ -14,7 +14,8 @@ use Rattle.integers.proofs.Size.{within}
 use Rattle.words.proofs.Tests.{either}
 use Rattle.book.specs.declared.Settings.{Settings}
 use Rattle.book.specs.Limits.{take_least, take_most, take_flag_unset, take_flag_set}
-use Rattle.book.specs.Settings.{is_weight, is_take, take_formed, all_of}
+use Rattle.std.specs.List.{list_all}
+use Rattle.book.specs.Settings.{is_weight, is_take, take_formed}
 use Rattle.book.specs.Rows.{Row, capacity}
 use Rattle.book.specs.Book.{Book, used_rows, well_formed}
 use Rattle.book.proofs.RowsOf.{length-rows}
@@ -28,7 +29,7 @@ use Rattle.cells.proofs.CellBounds.{cell-thousandths, thousandths-most}
 pub record Limited (s : Settings) (meters : List Row) : Type 0 where
   pub rows : Each (RowBounds s.shapes) meters
   pub few : length meters ≤ 65536
-  pub weights : all_of is_weight s.weights ≡ true
+  pub weights : list_all is_weight s.weights ≡ true
   pub tolerance : s.tolerance ≤ 1000
   pub take-wh : nat_abs s.take_wh ≤ 5000000000
 

@@ -10,18 +10,25 @@ use lib.IntN.{ℤ, pos, neg_ℤ}
 use lib.ListN.{length, get_or}
 use mir.Syntax.{w64}
 use mir.Val.{SFits}
+use Rattle.std.specs.Prelude.{Option, Result, Ok, Err}
+use Rattle.std.specs.Option.{ok_or}
+use Rattle.std.specs.Result.{result_ok}
+use Rattle.refusals.specs.declared.Refusal.{Refusal}
+use Rattle.refusals.specs.declared.Refusal.TheVariants.{ShapeOfDefaultMissing}
 use Rattle.integers.specs.Sum.{sum}
 use Rattle.integers.specs.Rounding.{nearest_wh, dropped_thousandths}
 use Rattle.integers.proofs.Fit.{fit}
 use Rattle.book.specs.declared.Settings.{Settings}
-use Rattle.book.specs.Limits.{classes, categories}
+use Rattle.book.specs.Limits.{classes}
 use Rattle.book.specs.Settings.{is_weight}
-use Rattle.book.specs.Rows.{Row, capacity, rows_of}
+use Rattle.book.specs.Rows.{Row, rows_of}
 use Rattle.book.specs.Book.{used_rows, well_formed, lent}
 use Rattle.book.proofs.AllOf.{entry-passes}
-use Rattle.book.proofs.WellFormed.{room, formed-book, formed-settings}
+use Rattle.book.proofs.WellFormed.{formed-book, formed-settings}
 use Rattle.cells.specs.Cells.{is_loss_class, cell, count_from, cells_of, units, consumption_cell, loss_cell}
-use Rattle.cells.specs.Helpers.{raw_cell, table_of, empty_cell, GatherArguments}
+use Rattle.cells.specs.declared.Counts.{Counts}
+use Rattle.cells.specs.Energy.{any_lacks_shape, counts_of}
+use Rattle.cells.specs.Helpers.{raw_cell, table_of, empty_cell, gathered, GatherArguments}
 use Rattle.cells.proofs.Entries.{by_place}
 use Rattle.cells.proofs.Counting.{counted-length, cells-length, cells_at}
 use Rattle.cells.proofs.Tables.{table-row}
@@ -92,17 +99,15 @@ module _ (s : Settings) (words : List ℕ) (wf : well_formed (lent s words) ≡ 
   unfolding used_rows
   limited = book-limited (lent s words) wf
 
-  pub gather-arguments : {table : List (List ℤ)} {counts : List ℕ} → length s.shapes ≡ categories → table ≡ table_of empty_cell → counts ≡ 0 ∷ 0 ∷ 0 ∷ 0 ∷ [] → GatherArguments words s.meters s.shapes table counts
-  unfolding used_rows capacity
-  gather-arguments long t k =
+  pub gather-arguments : {meters : List Row} {table : List (List ℤ)} → meters ≡ meters_in s words → table ≡ table_of empty_cell → GatherArguments meters s.shapes table
+  unfolding used_rows
+  gather-arguments m t =
       let book = formed-book (lent s words) wf in
       record {
-        room = room words s.meters book.within;
-        few = omega (arith, book.within);
-        rows-formed = book.rows-formed;
+        few = rw m limited.few;
+        rows-formed = rw m book.rows-formed;
         shapes-formed = (formed-settings s book.settings-formed).shapes-formed;
         cells-empty = t;
-        counts-empty = k;
       }
 
   unit-arguments : (unit : ℕ) → UnitArguments (map (raw_cell s.shapes (meters_in s words) unit) (count_from 0 classes)) s.weights
@@ -128,6 +133,29 @@ module _ (s : Settings) (words : List ℕ) (wf : well_formed (lent s words) ≡ 
   pub take-fits : SFits w64 s.take_wh
   take-fits = fit s.take_wh 5000000000 limited.take-wh (lit< tt)
 
+-- what `gather` answers for these meters, as its caller parts it
+module _ (shapes : List ℕ) (meters : List Row) {told : Result Counts Counts} {counted : Option Counts} {outcome : Result Counts Refusal}
+    (e : told ≡ gathered shapes meters) (f : counted ≡ result_ok told) (given : outcome ≡ ok_or counted ShapeOfDefaultMissing) where
+  abbrev as_parted : Bool → Result Counts Refusal
+  as_parted lacks = ok_or (result_ok (cond lacks (Err (counts_of meters)) (Ok (counts_of meters)))) ShapeOfDefaultMissing
+
+  parted : outcome ≡ as_parted (any_lacks_shape shapes meters)
+  parted = given ∙ rw (f, e)
+
+  pub one-lacks : (r : Refusal) → outcome ≡ Err r → (any_lacks_shape shapes meters ≡ true) × (ShapeOfDefaultMissing ≡ r)
+  one-lacks r h = by (any_lacks_shape shapes meters) (sym parted ∙ h)
+    where
+      by : (lacks : Bool) → as_parted lacks ≡ Err r → (lacks ≡ true) × (ShapeOfDefaultMissing ≡ r)
+      by true k = (refl, cc)
+      by false k = absurd cc
+
+  pub all-shaped : (x : Counts) → outcome ≡ Ok x → (any_lacks_shape shapes meters ≡ false) × (x ≡ counts_of meters)
+  all-shaped x h = by (any_lacks_shape shapes meters) (sym parted ∙ h)
+    where
+      by : (lacks : Bool) → as_parted lacks ≡ Ok x → (lacks ≡ false) × (x ≡ counts_of meters)
+      by true k = absurd cc
+      by false k = (refl, cc)
+
 -- n, a and droppings of the units, as the code has them
 sums-from-table : (s : Settings) (meters : List Row) → map (λ cells. sums_of cells s.weights) (table_of (raw_cell s.shapes meters)) ≡ all_unit_sums s meters
 unfolding table_of all_unit_sums unit_sums
@@ -141,12 +169,13 @@ unfolding table_of all_droppings
 droppings-from-table shapes meters =
     map-map _ _ (count_from 0 units) ∙ ap (λ (f : ℕ → ℤ). map f (count_from 0 units)) (fun_ext (dropped-cells shapes meters))
 
-module _ (s : Settings) (words : List ℕ) {table : List (List ℤ)} {x : AllUnits} (t : table ≡ table_of (raw_cell s.shapes (meters_in s words))) (given : UnitsWorked s.weights table x) where
+module _ (s : Settings) (words : List ℕ) {meters : List Row} {table : List (List ℤ)} {x : AllUnits}
+    (m : meters ≡ meters_in s words) (t : table ≡ table_of (raw_cell s.shapes meters)) (given : UnitsWorked s.weights table x) where
   pub sums-worked : x.sums ≡ sums_in s words
-  sums-worked = given.sums-are ∙ ap (map (λ cells. sums_of cells s.weights)) t ∙ sums-from-table s (meters_in s words)
+  sums-worked = given.sums-are ∙ ap (map (λ cells. sums_of cells s.weights)) t ∙ sums-from-table s meters ∙ ap (all_unit_sums s) m
 
   pub droppings-worked : x.droppings ≡ all_droppings s.shapes (meters_in s words)
-  droppings-worked = given.droppings-are ∙ ap (map droppings_of) t ∙ droppings-from-table s.shapes (meters_in s words)
+  droppings-worked = given.droppings-are ∙ ap (map droppings_of) t ∙ droppings-from-table s.shapes meters ∙ ap (all_droppings s.shapes) m
 
 pub correct-arguments : (s : Settings) (words : List ℕ) → well_formed (lent s words) ≡ true → {slice : List ℤ} → units ≤ length slice → CorrectArguments s.take_wh s.tolerance (sums_in s words) slice
 correct-arguments s words wf long-slice =

@@ -8,7 +8,8 @@ use lib.ListN.{length}
 use lib.IntN.{ℤ, nat_abs}
 use Rattle.book.specs.declared.Settings.{Settings}
 use Rattle.book.specs.Limits.{classes}
-use Rattle.book.specs.Settings.{is_weight, all_of}
+use Rattle.std.specs.List.{list_all}
+use Rattle.book.specs.Settings.{is_weight}
 use Rattle.book.specs.Rows.{Row}
 use Rattle.cells.specs.Cells.{cell, count_from, cells_of, units}
 use Rattle.cells.proofs.Each.{Each}
@@ -61,7 +62,7 @@ module _ (s : Settings) {meters : List Row} (e : Each (RowBounds s.shapes) meter
         cells-total s.shapes e,
       )
 
-  pub weighteds-total : all_of is_weight s.weights ≡ true → sizes (map weighted_in (all_unit_sums s meters)) ≤ 1310720000384000
+  pub weighteds-total : list_all is_weight s.weights ≡ true → sizes (map weighted_in (all_unit_sums s meters)) ≤ 1310720000384000
   unfolding all_unit_sums unit_sums
   weighteds-total h =
       let a : ℕ → ℤ = λ unit. weighted_of (cells_of s.shapes meters unit) s.weights in

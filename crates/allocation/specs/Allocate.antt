@@ -5,7 +5,8 @@ use Rattle.book.specs.declared.Settings.{Settings}
 use Rattle.book.specs.Settings.{take_is_set}
 use Rattle.book.specs.Rows.{Row}
 use Rattle.book.specs.Book.{Book, used_rows, well_formed}
-use Rattle.cells.specs.Energy.{Counts, counts_of, no_counts, any_lacks_shape}
+use Rattle.cells.specs.declared.Counts.{Counts}
+use Rattle.cells.specs.Energy.{counts_of, no_counts, any_lacks_shape}
 use Rattle.cells.specs.Cells.{units, cells_of, count_from}
 use Rattle.correction.specs.declared.UnitSums.{UnitSums}
 use Rattle.correction.specs.Correction.{unallocated_of, weighted_total, net_of, weighted_of, sums_cause}

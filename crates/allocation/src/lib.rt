@@ -2,9 +2,10 @@
 #![tactic(auto)]
 
 ghost use Rattle.std.specs.Prelude.{◌≡◌};
-ghost use Rattle.allocation.specs.Helpers.{allocated_of};
+ghost use Rattle.allocation.specs.Helpers.{allocated_of, allocation_answer};
 
 use book::Settings;
+use cells::Counts;
 use correction::Corrected;
 use refusals::{ACCEPTED, Refusal};
 
@@ -15,7 +16,7 @@ pub mod allocate;
 #[derive(Clone, Copy)]
 pub struct Figures {
     pub corrected: Corrected,
-    pub counts: [u64; 4],
+    pub counts: Counts,
     pub droppings: [i64; 32],
 }
 
@@ -39,16 +40,19 @@ impl From<Result<Figures, Refusal>> for Allocated {
 
     fn from(outcome: Result<Figures, Refusal>) -> Allocated {
         match outcome {
-            Ok(figures) => Allocated {
-                number: ACCEPTED,
-                unallocated: figures.corrected.unallocated,
-                weighted: figures.corrected.weighted,
-                actual: figures.counts[0],
-                estimated: figures.counts[1],
-                defaulted: figures.counts[2],
-                idle: figures.counts[3],
-                droppings: figures.droppings,
-            },
+            Ok(figures) => {
+                let droppings = figures.droppings;
+                Allocated {
+                    number: ACCEPTED,
+                    unallocated: figures.corrected.unallocated,
+                    weighted: figures.corrected.weighted,
+                    actual: figures.counts.actual,
+                    estimated: figures.counts.estimated,
+                    defaulted: figures.counts.defaulted,
+                    idle: figures.counts.idle,
+                    droppings,
+                }
+            }
             Err(refusal) => Allocated {
                 number: u64::from(refusal),
                 unallocated: 0,
@@ -63,10 +67,23 @@ impl From<Result<Figures, Refusal>> for Allocated {
     }
 }
 
-// What the allocate call answers: its figures, and the settings as they were given.
+// What a C program is answered by an allocation: the figures, or zeros beside the number of its refusal, and the settings.
+// Kept: the C interface has this struct; the calls themselves give a Result.
 #[repr(C)]
 #[derive(Clone, Copy)]
 pub struct AllocationAnswer {
     pub answer: Allocated,
     pub settings: Settings,
+}
+
+impl AllocationAnswer {
+    // The answer to an allocation of a book that has these settings.
+    pub fn of(settings: Settings, outcome: Result<Figures, Refusal>) -> AllocationAnswer
+        ensures { result ≡ allocation_answer settings outcome }
+    {
+        AllocationAnswer {
+            answer: Allocated::from(outcome),
+            settings,
+        }
+    }
 }

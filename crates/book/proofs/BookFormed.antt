@@ -9,7 +9,7 @@ use Rattle.book.specs.declared.Settings.{Settings}
 use Rattle.book.specs.declared.Setting.{Setting}
 use Rattle.book.specs.declared.Setting.TheVariants.{Shape, Weight, Tolerance, GroupTake}
 use Rattle.book.specs.Limits.{classes, categories}
-use Rattle.book.specs.Settings.{is_weight, is_shape, take_formed, all_of, fresh_settings, settings_formed, setting_in_range, with_setting, with_meters}
+use Rattle.book.specs.Settings.{is_weight, is_shape, take_formed, fresh_settings, settings_formed, setting_in_range, with_setting, with_meters}
 use Rattle.book.specs.Rows.{Row, capacity, rows_formed, written}
 use Rattle.book.specs.Book.{Book, used_rows, well_formed, with_rows}
 use Rattle.book.proofs.AllOf.{all_set}
@@ -54,7 +54,7 @@ unfolding settings_formed
 meters-formed n s f = f
 
 pub fresh-formed : settings_formed fresh_settings ≡ true
-unfolding settings_formed all_of take_formed
+unfolding settings_formed take_formed
 fresh-formed = refl
 
 pub capacity-same : (words more : List ℕ) → length words ≡ length more → capacity words ≡ capacity more

@@ -1,21 +1,19 @@
 -- The rows of a slice tested one after the other: what is left decides. The range of MPANs is tested at the last row only.
-use Prim.Native.Nat.{ℕ, ◌+◌, ◌*◌, ◌-◌, ◌≤◌, ◌<◌}
-use mathlib.Core.Path.{◌≡◌, refl, sym, ◌∙◌, ap, subst}
+use Prim.Native.Nat.{ℕ, ◌+◌, ◌-◌, ◌≤◌, ◌<◌}
+use mathlib.Core.Path.{◌≡◌, refl, sym, ◌∙◌}
 use mathlib.Core.Bool.{Bool, true, false, ◌&&◌}
-use mathlib.Core.List.{List, [], ◌∷◌}
+use mathlib.Core.List.{List, [], ◌∷◌, map}
 use native.Mathlib.Omega.{arith}
 use lib.Dec.{leb, ltb}
 use lib.ListN.{length, get_or, drop}
 use borrow.Author.Tests.{ltb-true, leb-true, leb-false, le-leb, lt-leb, lt-ltb}
+use Rattle.std.proofs.lemmas.List.{drop_more, drop_all}
 use Rattle.words.specs.Limits.{mpan_least, mpan_most}
 use Rattle.words.specs.Mpan.{is_mpan}
 use Rattle.words.specs.Registration.{is_registration}
 use Rattle.words.specs.Reading.{is_reading}
 use Rattle.words.proofs.Tests.{by-test}
-use Rattle.std.specs.Simd.{first_chunks}
-use Rattle.book.specs.Rows.{Row, first_row, is_row, rows_of, rows_formed}
-use Rattle.book.proofs.RowsOf.{row_at, rows_next}
-use Rattle.book.proofs.Chunks.{length-chunks, chunk-row}
+use Rattle.book.specs.Rows.{Row, first_row, is_row, rows_formed}
 
 -- a row that stands above the one before it, with well-formed words behind its MPAN
 abbrev pub rises : ℕ → Row → Bool
@@ -94,46 +92,31 @@ from-least (r ∷ rows) =
     rw (lt-ltb 0 r.mpan (omega arith), lt-ltb (mpan_least - 1) r.mpan (omega arith)))
     (λ t. rw t)
 
-module _ (words : List ℕ) (n : ℕ) where
+module _ (rows : List (List ℕ)) where
   -- the rows from row i on decide, after an MPAN `before`
   pub record RowsLeft (before i : ℕ) : Type 0 where
-    pub decide : rows_formed 0 (rows_of n words) ≡ rises_from before (rows_of (n - i) (drop (3 * i) words))
+    pub decide : rows_formed 0 (map first_row rows) ≡ rises_from before (map first_row (drop i rows))
 
   pub all-rows-left : RowsLeft (mpan_least - 1) 0
   all-rows-left =
-      record {
-        decide = from-least (rows_of n words)
-            ∙ formed-rises (mpan_least - 1) (rows_of n words) (omega arith) (omega arith)
-            ∙ ap (λ (k : ℕ). rises_from (mpan_least - 1) (rows_of k words)) (omega arith);
-      }
+      record { decide = from-least (map first_row rows) ∙ formed-rises (mpan_least - 1) (map first_row rows) (omega arith) (omega arith) }
 
-  next_row : (before i : ℕ) → i < n → RowsLeft before i
-      → rows_formed 0 (rows_of n words)
-      ≡ (rises before (row_at words (3 * i)) && rises_from (row_at words (3 * i)).mpan (rows_of (n - (i + 1)) (drop (3 * (i + 1)) words)))
-  unfolding rises_from
-  next_row before i h l = l.decide ∙ rw (rows_next words n i h)
+  module _ (before i : ℕ) (l : RowsLeft before i) where
+    abbrev this : Row
+    this = first_row (get_or rows i [])
 
-  -- as the code tests them, by their words three by three
-  module _ {chunks : List (List ℕ)} (e : chunks ≡ first_chunks 3 n words) (before i : ℕ) (l : RowsLeft before i) where
-    row_there : i < length chunks → first_row (get_or chunks i []) ≡ row_at words (3 * i)
-    row_there h = chunk-row n i words e (omega (arith, ap length e, length-chunks n words))
+    next_row : i < length rows → rows_formed 0 (map first_row rows) ≡ (rises before this && rises_from this.mpan (map first_row (drop (i + 1) rows)))
+    unfolding rises_from
+    next_row h = l.decide ∙ rw (drop_more rows i [] h)
 
-    pub row-passes : i < length chunks → rises before (first_row (get_or chunks i [])) ≡ true → RowsLeft (first_row (get_or chunks i [])).mpan (i + 1)
-    row-passes h t =
-        let k : i < n = omega (arith, ap length e, length-chunks n words) in
-        subst (λ (r : Row). RowsLeft r.mpan (i + 1)) (sym (row_there h))
-        (record
-        { decide = next_row before i k l ∙ ap (λ (b : Bool). b && rises_from (row_at words (3 * i)).mpan (rows_of (n - (i + 1)) (drop (3 * (i + 1)) words))) (subst (λ (r : Row). rises before r ≡ true) (row_there h) t) })
+    pub row-passes : i < length rows → rises before this ≡ true → RowsLeft this.mpan (i + 1)
+    row-passes h t = record { decide = rw t at (next_row h) }
 
-    pub row-fails : i < length chunks → rises before (first_row (get_or chunks i [])) ≡ false → false ≡ rows_formed 0 (rows_of n words)
-    row-fails h t =
-        let k : i < n = omega (arith, ap length e, length-chunks n words) in
-        sym (next_row before i k l ∙ ap (λ (b : Bool). b && rises_from (row_at words (3 * i)).mpan (rows_of (n - (i + 1)) (drop (3 * (i + 1)) words))) (subst (λ (r : Row). rises before r ≡ false) (row_there h) t))
+    pub row-fails : i < length rows → rises before this ≡ false → false ≡ rows_formed 0 (map first_row rows)
+    row-fails h t = sym (rw t at (next_row h))
 
-    pub no-row-left : length chunks ≤ i → leb before mpan_most ≡ rows_formed 0 (rows_of n words)
-    unfolding rises_from rows_of
-    no-row-left h =
-        let z : n - i ≡ 0 = omega (arith, ap length e, length-chunks n words) in
-        sym (l.decide ∙ ap (λ (k : ℕ). rises_from before (rows_of k (drop (3 * i) words))) z)
+    pub no-row-left : length rows ≤ i → leb before mpan_most ≡ rows_formed 0 (map first_row rows)
+    unfolding rises_from
+    no-row-left h = sym (rw (drop_all i rows h) at l.decide)
 
 pub ruleset turns = (all-rows-left, row-passes, row-fails, no-row-left)

@@ -16,7 +16,7 @@ use Rattle.words.specs.Reading.{no_reading, issue_of, quality_allowed, reading_w
 use Rattle.words.proofs.Tests.{by-test}
 use Rattle.book.specs.declared.Held.{Held}
 use Rattle.book.specs.declared.Stored.{Stored}
-use Rattle.book.specs.Rows.{Row, capacity, rows_of, is_known, issue_held, new_row, with_registration, with_reading, written}
+use Rattle.book.specs.Rows.{Row, capacity, rows_of, rows_formed, is_known, issue_held, new_row, with_registration, with_reading, written}
 use Rattle.book.specs.Store.{register_in_range, reading_call_in_range, has_no_room, registration_cause, reading_cause}
 use Rattle.book.specs.Helpers.{place_of, row_held, held_in, Storing, storing, asked_of, word_storing, registration_storing, reading_storing, RowsReady, Stores}
 use Rattle.book.proofs.RowsOf.{length-rows}
@@ -26,6 +26,7 @@ use Rattle.book.proofs.WithRegistration.{length_inserted, length-replaced, regis
 use Rattle.book.proofs.WithReading.{length-reading, reading-stores}
 use Rattle.book.proofs.Placed.{known-is, unknown-is, index-is, new-index-is, there}
 use Rattle.book.proofs.Parts.{rest_part}
+use Rattle.book.proofs.StoredFormed.{rows-registered}
 use Rattle.book.proofs.HeldIn.{held_none, reading_of, issue-held, held_in_lem, held-read, held-registered, held_new}
 
 -- an `Ok` and an `Err` differ, and what equal ones give is equal
@@ -70,6 +71,13 @@ module _ (capacity m : ℕ) (r : Registration) (rows : List Row) where
   asked-storing e =
       by-test (register_in_range m r)
       (λ t. rw (t, same_Ok (rw t at e)))
+      (λ t. absurd (err-ok (rw t at e)))
+
+  -- rows that take that word stay well formed
+  pub asked-formed : {word : ℕ} → asked_of m r ≡ Ok word → rows_formed 0 rows ≡ true → rows_formed 0 (with_registration m word rows) ≡ true
+  asked-formed e formed =
+      by-test (register_in_range m r)
+      (λ t. rw (← same_Ok (rw t at e)) (rows-registered m r rows t formed))
       (λ t. absurd (err-ok (rw t at e)))
 
 -- a reading

@@ -7,7 +7,8 @@ use native.Mathlib.Omega.{arith}
 use borrow.Author.Tests.{le-leb, lt-leb, leb-true}
 use lib.ListN.{length}
 use Rattle.book.specs.declared.Settings.{Settings}
-use Rattle.book.specs.Settings.{is_weight, is_shape, is_tolerance, take_formed, all_of, settings_formed}
+use Rattle.std.specs.List.{list_all}
+use Rattle.book.specs.Settings.{is_weight, is_shape, is_tolerance, take_formed, settings_formed}
 use Rattle.book.specs.Rows.{capacity, rows_of, rows_formed}
 use Rattle.book.specs.Book.{Book, used_rows, well_formed, lent}
 use Rattle.book.specs.Helpers.{Searchable, RowsReady}
@@ -38,8 +39,8 @@ unfolding well_formed
 book-formed b f = rw (le-leb b.settings.meters (capacity b.rows) f.within, f.settings-formed, f.rows-formed)
 
 pub record FormedSettings (s : Settings) : Type 0 where
-  pub weights-formed : all_of is_weight s.weights ≡ true
-  pub shapes-formed : all_of is_shape s.shapes ≡ true
+  pub weights-formed : list_all is_weight s.weights ≡ true
+  pub shapes-formed : list_all is_shape s.shapes ≡ true
   pub tolerance-formed : is_tolerance s.tolerance ≡ true
   pub take-formed : take_formed s.take_set s.take_wh ≡ true
 
@@ -78,5 +79,9 @@ module _ (s : Settings) (words : List ℕ) where
   rows-ready h =
       let f = formed-book (lent s words) h in
       record { within-capacity = f.within; formed = f.rows-formed }
+
+  -- and are in its words
+  pub meters_within : well_formed (lent s words) ≡ true → 3 * s.meters ≤ length words
+  meters_within h = room words s.meters (formed-book (lent s words) h).within
 
 pub ruleset tested = (room, too-many-meters, ill-formed-settings, rows-decide)

@@ -1,6 +1,7 @@
 -- "Settings, held in a record by value".
-use Rattle.std.specs.Prelude.{ℕ, Bool, true, not, ◌&&◌, ◌||◌, List, [], ◌∷◌, leb, ltb, eqb, ℤ, pos, nat_abs, set, replicate}
+use Rattle.std.specs.Prelude.{ℕ, Bool, not, ◌&&◌, ◌||◌, leb, ltb, eqb, ℤ, pos, nat_abs, set, replicate}
 use Rattle.std.specs.Int.Signed.{le_z}
+use Rattle.std.specs.List.{list_all}
 use Rattle.refusals.specs.Causes.{refuse, accepted, argument_out_of_range}
 use Rattle.book.specs.declared.Settings.{Settings}
 use Rattle.book.specs.declared.Setting.{Setting}
@@ -43,16 +44,11 @@ take_formed flag wh = (eqb flag take_flag_unset && eqb (nat_abs wh) 0) || (eqb f
 abbrev pub take_is_set : Settings → Bool
 take_is_set s = eqb s.take_set take_flag_set
 
--- every number of a list passes a test
-unfoldable pub all_of : (ℕ → Bool) → List ℕ → Bool
-all_of test [] = true
-all_of test (x ∷ xs) = test x && all_of test xs
-
 -- "each setting is one that accepted calls could have written"
 unfoldable pub settings_formed : Settings → Bool
 settings_formed s =
-    all_of is_weight s.weights
-    && all_of is_shape s.shapes
+    list_all is_weight s.weights
+    && list_all is_shape s.shapes
     && is_tolerance s.tolerance
     && take_formed s.take_set s.take_wh
 

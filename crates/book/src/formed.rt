@@ -1,9 +1,10 @@
 // The test that a book is well formed.
-ghost use Rattle.std.specs.Prelude.{◌≡◌, ◌&&◌, ◌*◌, ◌≤◌, ltb, length};
+ghost use Rattle.std.specs.Prelude.{◌≡◌, ◌&&◌, ltb, map};
 ghost use Rattle.words.specs.Registration.{is_registration};
 ghost use Rattle.words.specs.Reading.{is_reading};
-ghost use Rattle.book.specs.Settings.{take_formed, all_of, settings_formed};
-ghost use Rattle.book.specs.Rows.{rows_of, rows_formed};
+ghost use Rattle.std.specs.List.{list_all};
+ghost use Rattle.book.specs.Settings.{take_formed, settings_formed};
+ghost use Rattle.book.specs.Rows.{first_row, rows_formed};
 ghost use Rattle.book.specs.Book.{well_formed, lent};
 ghost use Rattle.book.specs.Helpers.{within};
 
@@ -25,7 +26,7 @@ fn take_formed(flag: u32, wh: i64) -> bool
 // end, so that the compiler tests several numbers at once. Nearly every list passes anyway.
 #[tactic(auto, using(crate::proofs::AllOf::entries))]
 fn all_within(xs: &[u32], most: u64, other: u64) -> bool
-    ensures { result ≡ all_of (within most other) xs.now }
+    ensures { result ≡ list_all (within most other) xs.now }
 {
     let mut all = true;
     for x in xs {
@@ -60,15 +61,14 @@ fn row_rises(before: u64, mpan: u64, registration: u64, reading: u64) -> bool
     words::is_reading(reading)
 }
 
-// Whether the first n rows are well formed and rise strictly. Rows that rise from below the least MPAN up to one that is in range
+// Whether the rows are well formed and rise strictly. Rows that rise from below the least MPAN up to one that is in range
 // are all in range.
 #[tactic(auto, using(crate::proofs::RowsFormed::turns))]
-fn rows_formed(rows: &[u64], n: usize) -> bool
-    requires { 3 * n ≤ length rows.now }
-    ensures { result ≡ rows_formed 0 (rows_of n rows.now) }
+fn rows_formed(rows: &[[u64; 3]]) -> bool
+    ensures { result ≡ rows_formed 0 (map first_row rows.now) }
 {
     let mut before = words::MPAN_MIN - 1;
-    for [mpan, registration, reading] in first_rows(rows, n) {
+    for [mpan, registration, reading] in rows {
         if !row_rises(before, *mpan, *registration, *reading) {
             return false;
         }
@@ -78,6 +78,8 @@ fn rows_formed(rows: &[u64], n: usize) -> bool
 }
 
 // Whether the book that a call is lent is well formed.
+// Kept: settings and rows are passed side by side, here and by every call, as the C interface lends them: the settings by value, and the rows to
+// be read by some calls and written by others, so that a struct of a tested book would be two, made in each call and taken apart in it.
 #[tactic(auto, using(crate::proofs::WellFormed::tested))]
 pub fn is_formed(settings: Settings, rows: &[u64]) -> bool
     ensures { result ≡ well_formed (lent settings rows.now) }
@@ -89,5 +91,5 @@ pub fn is_formed(settings: Settings, rows: &[u64]) -> bool
     if !settings_formed(settings) {
         return false;
     }
-    rows_formed(rows, meters)
+    rows_formed(first_rows(rows, meters))
 }

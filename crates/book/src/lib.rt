@@ -3,7 +3,7 @@
 #![tactic(auto)]
 
 ghost use Rattle.std.specs.Prelude.{◌≡◌};
-ghost use Rattle.book.specs.Settings.{fresh_settings, with_meters};
+ghost use Rattle.book.specs.Settings.{fresh_settings};
 ghost use Rattle.book.specs.Helpers.{answer_of};
 
 use refusals::{Refusal, number_given};
@@ -17,6 +17,8 @@ pub mod store;
 // The settings, passed in and returned. Whatever bytes a C program passes are numbers that the contracts speak of, and the order of
 // the fields leaves no padding.
 // Kept: the C interface has the Take's flag beside its value, and a program may pass any number for it, so that it is no Option or bool.
+// Kept: how many weights and shapes there are stands in their types as a number, and not as CLASSES and CATEGORIES: the check of the
+// interface reads it there (`interface/drift/laid_out.awk`), and a length is a usize, but the classes and categories of calls are u64.
 #[repr(C)]
 #[derive(Clone, Copy)]
 pub struct Settings {
@@ -100,23 +102,18 @@ impl Settings {
     pub const TAKE_FLAG_SET: u32 = 1;
 
     // The settings of a fresh book.
+    // Kept: `as`, which is proved to lose nothing: the two constants are u64, as what calls are given, and settings hold u32, for which there
+    // is no `From` of a u64.
     pub fn fresh() -> Settings
         ensures { result ≡ fresh_settings }
     {
         Settings {
             meters: 0,
             weights: [0; 24],
-            shapes: [4_294_967_295; 64],
-            tolerance: 1_000,
+            shapes: [Self::SHAPE_MISSING as u32; 64],
+            tolerance: Self::TOLERANCE_MAX as u32,
             take_set: Self::TAKE_FLAG_UNSET,
             take_wh: 0,
         }
-    }
-
-    // The settings with another number of meters.
-    pub fn with_meters(self, meters: usize) -> Settings
-        ensures { result ≡ with_meters meters self }
-    {
-        Settings { meters, ..self }
     }
 }

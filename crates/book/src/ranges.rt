@@ -8,7 +8,7 @@ use crate::{Setting, Settings};
 pub fn is_take(wh: i64) -> bool
     ensures { result ≡ is_take wh }
 {
-    (Settings::TAKE_MIN <= wh) & (wh <= Settings::TAKE_MAX)
+    (Settings::TAKE_MIN..=Settings::TAKE_MAX).contains(&wh)
 }
 
 // Whether a setting's number and its value are in range.

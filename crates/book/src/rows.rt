@@ -1,6 +1,7 @@
 // Where rows stand: capacity, the search for an MPAN, and the insertion of a row.
 // Kept: the words and how many rows of them are in use are passed side by side, since a C program lends one slice, with words past the rows
-// in use that keep what they hold, and the number of meters stands in the settings that it passes.
+// in use that keep what they hold, and the number of meters stands in the settings that it passes. What only reads them takes rows of three
+// words (`first_rows`). A search takes the words too: what stores next writes them at its place, and asks for the place in these words.
 ghost use Rattle.std.specs.Prelude.{◌≡◌, cond, ◌∷◌, ◌+◌, ◌*◌, ◌^◌, ◌≤◌, ◌<◌, min, ltb, length, map};
 ghost use Rattle.std.specs.Simd.{first_chunks};
 ghost use Rattle.book.specs.Rows.{capacity, first_row, new_row, rows_of, written};

@@ -3,3 +3,4 @@ pub mod Answers
 pub mod RegisterCall
 pub mod ReadingCall
 pub mod CallFormed
+pub mod InOrder

@@ -8,7 +8,8 @@ use lib.IntN.{ℤ}
 use Rattle.integers.specs.Rounding.{nearest_wh}
 use Rattle.book.specs.Limits.{classes}
 use Rattle.book.specs.Rows.{Row}
-use Rattle.cells.specs.Energy.{source_of, any_lacks_shape, Counts, count_for, add_counts, counts_of, lacks_shape}
+use Rattle.cells.specs.declared.Counts.{Counts}
+use Rattle.cells.specs.Energy.{source_of, any_lacks_shape, count_for, add_counts, counts_of, lacks_shape}
 use Rattle.cells.specs.Cells.{is_loss_class, consumption_cell, loss_cell, cell, count_from, cells_of, energy_in, loss_in}
 use Rattle.cells.proofs.Permuted.{Permuted, none, keep, exchange, chain}
 use Rattle.cells.proofs.SumOver.{sum-over-any-order}

@@ -12,7 +12,8 @@ use Rattle.book.specs.Limits.{classes}
 use Rattle.book.specs.Rows.{Row, row_without_charges}
 use Rattle.cells.specs.declared.Source.{Source}
 use Rattle.cells.specs.declared.Source.TheVariants.{Actual, Estimated, Defaulted, Idle}
-use Rattle.cells.specs.Energy.{source_of, energy_from, energy_wh, lacks_shape_from, lacks_shape, any_lacks_shape, Counts, count_for, add_counts, counts_of}
+use Rattle.cells.specs.declared.Counts.{Counts}
+use Rattle.cells.specs.Energy.{source_of, energy_from, energy_wh, lacks_shape_from, lacks_shape, any_lacks_shape, count_for, add_counts, counts_of}
 use Rattle.cells.specs.Cells.{consumption_class, in_cell, energy_in, loss_thousandths, loss_in, sum_over, is_loss_class, consumption_cell, loss_cell, cell, count_from, cells_of}
 
 -- what one meter gives, of its two words

@@ -7,7 +7,8 @@ use lib.ListN.{length}
 use Rattle.book.specs.Rows.{Row}
 use Rattle.cells.specs.declared.Source.{Source}
 use Rattle.cells.specs.declared.Source.TheVariants.{Actual, Estimated, Defaulted, Idle}
-use Rattle.cells.specs.Energy.{source_of, Counts, count_for, counts_of}
+use Rattle.cells.specs.declared.Counts.{Counts}
+use Rattle.cells.specs.Energy.{source_of, count_for, counts_of}
 
 abbrev pub in_all : Counts → ℕ
 in_all c = c.actual + c.estimated + c.defaulted + c.idle

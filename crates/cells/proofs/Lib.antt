@@ -5,6 +5,7 @@ pub mod Permuted
 pub mod Entries
 pub mod Counting
 -- from meters to cells
+pub mod Statuses
 pub mod Uses
 pub mod Tables
 pub mod SumOver
@@ -16,6 +17,10 @@ pub mod AnyOrder
 pub mod Charges
 -- how large they can be
 pub mod RowBounds
-pub mod Turns
 pub mod Totals
 pub mod CellBounds
+-- as the code works them
+pub mod Turns
+pub mod AnyLacks
+pub mod MeterAdded
+pub mod Gathering

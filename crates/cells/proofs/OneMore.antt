@@ -1,7 +1,7 @@
 -- One more meter after the others: what it adds to the cells, the four counts and the missing shapes.
 use Prim.Native.Nat.{ℕ, ◌+◌, ◌-◌, ◌%◌, ◌≤◌, ◌<◌}
 use mathlib.Core.Path.{◌≡◌, refl, sym, ◌∙◌, ap}
-use mathlib.Core.Bool.{Bool, true, false, ◌&&◌, ◌||◌, cond, or-false, or_assoc}
+use mathlib.Core.Bool.{Bool, true, false, ◌&&◌, ◌||◌, cond, or-false}
 use mathlib.Core.List.{List, [], ◌∷◌, ◌++◌}
 use native.Mathlib.Nat.{add-zero}
 use native.Mathlib.Omega.{arith}
@@ -9,6 +9,7 @@ use borrow.Author.Tests.{eqb-true, eqb-false, eq-eqb, ne_eqb}
 use lib.Dec.{eqb}
 use lib.IntN.{ℤ, pos, ◌+ℤ◌, +ℤ_idl, +ℤ_idr, +ℤ_assoc}
 use lib.ListN.{length, get_or, set}
+use Rattle.std.proofs.lemmas.List.Folds.{list_any-append}
 use Rattle.words.specs.Registration.{llf_of, unit_of}
 use Rattle.words.proofs.Tests.{same_test}
 use Rattle.words.proofs.RegistrationWord.{unit-bound}
@@ -16,7 +17,8 @@ use Rattle.book.specs.Limits.{classes}
 use Rattle.book.specs.Rows.{Row}
 use Rattle.cells.specs.declared.Source.{Source}
 use Rattle.cells.specs.declared.Source.TheVariants.{Actual, Estimated, Defaulted, Idle}
-use Rattle.cells.specs.Energy.{source_of, any_lacks_shape, Counts, count_for, add_counts, counts_of, energy_wh, lacks_shape}
+use Rattle.cells.specs.declared.Counts.{Counts}
+use Rattle.cells.specs.Energy.{source_of, any_lacks_shape, count_for, add_counts, counts_of, energy_wh, lacks_shape}
 use Rattle.cells.specs.Cells.{consumption_class, is_loss_class, in_cell, loss_thousandths, units}
 use Rattle.cells.specs.Helpers.{source_number, count_list, raw_cell, table_of, increased, added, amount_in, with_meter}
 use lib.Seq.{get_or-set_same, set-set}
@@ -105,9 +107,7 @@ module _ (shapes : List ℕ) (meters : List Row) (r : Row) where
 
 pub lacks-more : (shapes : List ℕ) (meters : List Row) (r : Row) → any_lacks_shape shapes (meters ++ (r ∷ [])) ≡ (any_lacks_shape shapes meters || lacks_shape shapes r.registration r.reading)
 unfolding any_lacks_shape
-lacks-more shapes [] r = or-false _
-lacks-more shapes (m ∷ meters) r = rw (lacks-more shapes meters r)
-    (sym (or_assoc (lacks_shape shapes m.registration m.reading) (any_lacks_shape shapes meters) (lacks_shape shapes r.registration r.reading)))
+lacks-more shapes meters r = list_any-append _ meters (r ∷ []) ∙ ap (λ b. any_lacks_shape shapes meters || b) (or-false _)
 
 -- counts
 

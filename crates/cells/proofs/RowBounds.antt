@@ -14,7 +14,8 @@ use Rattle.words.specs.Registration.{direction_of, llf_of}
 use Rattle.words.proofs.RegistrationWord.{well-formed-bounds, unit-bound}
 use Rattle.words.proofs.ReadingWord.{reading-word-bounds}
 use Rattle.book.specs.Limits.{classes, shape_most, shape_missing}
-use Rattle.book.specs.Settings.{is_shape, all_of}
+use Rattle.std.specs.List.{list_all}
+use Rattle.book.specs.Settings.{is_shape}
 use Rattle.book.specs.Rows.{Row, rows_formed}
 use Rattle.book.proofs.AllOf.{entry-passes}
 use Rattle.book.proofs.Rising.{Words, formed-first}
@@ -66,7 +67,7 @@ module _ (registration reading : ℕ) where
   unfolding consumption_class
   class-direction = omega (arith, estimate-most (source_of registration reading))
 
-module _ (shapes : List ℕ) (formed : all_of is_shape shapes ≡ true) where
+module _ (shapes : List ℕ) (formed : list_all is_shape shapes ≡ true) where
   module _ (r : Row) (words : Words r) where
     energy-most : (x : Source) → energy_from shapes r.registration r.reading x ≤ 10000000
     unfolding energy_from

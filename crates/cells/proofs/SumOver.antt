@@ -7,7 +7,6 @@ use lib.IntN.{ℤ, pos, nat_abs, ◌+ℤ◌, ◌-ℤ◌}
 use lib.ListN.{length}
 use Rattle.integers.specs.Sum.{sum}
 use Rattle.integers.proofs.Sum.{sum-append}
-use Rattle.integers.proofs.Ring.{plus-left-comm}
 use Rattle.integers.proofs.Linear.{linear, plus, minus}
 use Rattle.integers.proofs.Size.{size-plus}
 use Rattle.book.specs.Rows.{Row}
@@ -20,7 +19,7 @@ pub sum-any-order : {xs ys : List ℤ} → Permuted ℤ xs ys → sum xs ≡ sum
 unfolding sum
 sum-any-order none = refl
 sum-any-order (keep {x = x} p) = ap (λ z. x +ℤ z) (sum-any-order p)
-sum-any-order (exchange {x = x} {y = y} {xs = xs}) = plus-left-comm x y (sum xs)
+sum-any-order (exchange {x = x} {y = y} {xs = xs}) = omega linear
 sum-any-order (chain p q) = sum-any-order p ∙ sum-any-order q
 
 moved-last : (b x a : ℤ) → b +ℤ (x +ℤ a) ≡ (b +ℤ a) +ℤ x

@@ -5,7 +5,8 @@ use mathlib.Core.Bool.{true}
 use mathlib.Core.List.{List, [], ◌∷◌, ◌++◌, map, map-append}
 use lib.ListN.{length, get_or, take, length-map}
 use Rattle.std.proofs.lemmas.List.{take_more, take-map, get_or-map}
-use Rattle.book.specs.Settings.{is_shape, all_of}
+use Rattle.std.specs.List.{list_all}
+use Rattle.book.specs.Settings.{is_shape}
 use Rattle.book.specs.Rows.{Row, first_row, rows_formed}
 use Rattle.cells.proofs.Each.{Each, each_at, each_take}
 use Rattle.cells.proofs.RowBounds.{RowBounds, rows-bounds}
@@ -19,7 +20,7 @@ module _ (rows : List (List ℕ)) (i : ℕ) where
   rows_next h = rw (take_more rows i [] h, map-append)
 
   -- what rows of a well-formed book contribute
-  module _ (shapes : List ℕ) (shaped : all_of is_shape shapes ≡ true) (formed : rows_formed 0 (map first_row rows) ≡ true) where
+  module _ (shapes : List ℕ) (shaped : list_all is_shape shapes ≡ true) (formed : rows_formed 0 (map first_row rows) ≡ true) where
     all-bounds : Each (RowBounds shapes) (map first_row rows)
     all-bounds = rows-bounds shapes shaped 0 (map first_row rows) formed
 

@@ -1,9 +1,11 @@
 -- "The energy of a meter".
-use Rattle.std.specs.Prelude.{ℕ, ◌+◌, Bool, false, not, ◌&&◌, ◌||◌, cond, List, [], ◌∷◌, eqb, get_or}
+use Rattle.std.specs.Prelude.{ℕ, ◌+◌, Bool, false, not, ◌&&◌, cond, List, [], ◌∷◌, eqb, get_or}
+use Rattle.std.specs.List.{list_any}
 use Rattle.words.specs.Registration.{status_of, category_of}
 use Rattle.words.specs.Reading.{no_reading, consumption_of, quality_of, is_actual}
 use Rattle.book.specs.Limits.{shape_missing}
 use Rattle.book.specs.Rows.{Row}
+use Rattle.cells.specs.declared.Counts.{Counts}
 use Rattle.cells.specs.declared.Source.{Source}
 use Rattle.cells.specs.declared.Source.TheVariants.{Actual, Estimated, Defaulted, Idle}
 
@@ -61,15 +63,9 @@ lacks_shape shapes registration reading = lacks_shape_from shapes registration (
 
 -- cause 9: the same of any meter
 unfoldable pub any_lacks_shape : List ℕ → List Row → Bool
-any_lacks_shape shapes [] = false
-any_lacks_shape shapes (r ∷ meters) = lacks_shape shapes r.registration r.reading || any_lacks_shape shapes meters
+any_lacks_shape shapes meters = list_any (λ r. lacks_shape shapes r.registration r.reading) meters
 
--- "four counts: actual [..], estimated [..], defaulted, idle"
-pub record Counts : Type 0 where
-  pub actual : ℕ
-  pub estimated : ℕ
-  pub defaulted : ℕ
-  pub idle : ℕ
+-- `Counts` is the "four counts: actual [..], estimated [..], defaulted, idle"
 
 -- what one meter counts
 unfoldable pub count_for : Source → Counts

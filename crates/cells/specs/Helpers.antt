@@ -1,16 +1,32 @@
 -- What the functions that gather the cells are held to: what a meter comes to, and tables of cells.
-use Rattle.std.specs.Prelude.{ℕ, ◌+◌, ◌*◌, ◌-◌, ◌≤◌, ◌<◌, ◌≡◌, Bool, true, cond, List, [], ◌∷◌, map, ℤ, pos, nat_abs, ◌+ℤ◌, ◌-ℤ◌, ◌*ℤ◌, length, get_or, set, eqb, Option, None, Some, unwrap_or, Result, Ok, Err}
+use Rattle.std.specs.Prelude.{ℕ, ◌+◌, ◌-◌, ◌≤◌, ◌<◌, ◌≡◌, true, cond, List, [], ◌∷◌, map, ℤ, pos, nat_abs, ◌+ℤ◌, ◌-ℤ◌, ◌*ℤ◌, length, get_or, set, eqb, Option, None, Some, unwrap_or, Result, Ok, Err}
+use Rattle.words.specs.Registration.{status_of}
+use Rattle.words.specs.Reading.{no_reading}
 use Rattle.refusals.specs.declared.Refusal.{Refusal}
 use Rattle.book.specs.declared.Held.{Held}
 use Rattle.book.specs.declared.Stored.{Stored}
 use Rattle.book.specs.Limits.{meters_most, classes, shape_missing}
-use Rattle.book.specs.Settings.{is_shape, all_of}
-use Rattle.book.specs.Rows.{Row, rows_of, rows_formed}
+use Rattle.std.specs.List.{list_all}
+use Rattle.book.specs.Settings.{is_shape}
+use Rattle.book.specs.Rows.{Row, rows_formed}
 use Rattle.cells.specs.declared.Use.{Use}
+use Rattle.cells.specs.declared.Counts.{Counts}
+use Rattle.cells.specs.declared.Status.{Status}
+use Rattle.cells.specs.declared.Status.TheVariants.{Disconnected, DeEnergised, Energised}
 use Rattle.cells.specs.declared.Source.{Source}
 use Rattle.cells.specs.declared.Source.TheVariants.{Actual, Estimated, Defaulted, Idle}
-use Rattle.cells.specs.Energy.{source_of, energy_wh, any_lacks_shape, Counts, counts_of, lacks_shape}
+use Rattle.cells.specs.Energy.{energised, de_energised, reading_source, used_de_energised, source_of, energy_wh, any_lacks_shape, counts_of, lacks_shape}
 use Rattle.cells.specs.Cells.{is_loss_class, count_from, units, energy_in, loss_in, sum_over}
+
+-- the status of a registration: a number that is none of the three, which no registration in range has, is taken as disconnected
+unfoldable pub status_in : ℕ → Status
+status_in registration = cond (eqb (status_of registration) energised) Energised (cond (eqb (status_of registration) de_energised) DeEnergised Disconnected)
+
+-- the source of a meter of this status
+abbrev pub source_for : Status → ℕ → Source
+source_for Disconnected reading = Idle
+source_for DeEnergised reading = cond (used_de_energised reading) (reading_source reading) Idle
+source_for Energised reading = cond (eqb reading no_reading) Defaulted (reading_source reading)
 
 -- a shape in Wh, if it is set
 abbrev pub shape_if_set : ℕ → Option ℕ
@@ -75,20 +91,16 @@ pub record AddArguments (cells : List ℤ) (class wh llf : ℕ) : Type 0 where
 abbrev pub empty_cell : ℕ → ℕ → ℤ
 empty_cell unit class = pos 0
 
--- what `gather` is held to: well-formed rows and shapes, and nothing gathered yet
-pub record GatherArguments (words : List ℕ) (n : ℕ) (shapes : List ℕ) (table : List (List ℤ)) (counts : List ℕ) : Type 0 where
-  pub room : 3 * n ≤ length words
-  pub few : n ≤ meters_most
-  pub rows-formed : rows_formed 0 (rows_of n words) ≡ true
-  pub shapes-formed : all_of is_shape shapes ≡ true
+-- what `gather` is held to: well-formed rows and shapes, and cells to which nothing was added yet
+pub record GatherArguments (meters : List Row) (shapes : List ℕ) (table : List (List ℤ)) : Type 0 where
+  pub few : length meters ≤ meters_most
+  pub rows-formed : rows_formed 0 meters ≡ true
+  pub shapes-formed : list_all is_shape shapes ≡ true
   pub cells-empty : table ≡ table_of empty_cell
-  pub counts-empty : counts ≡ 0 ∷ 0 ∷ 0 ∷ 0 ∷ []
 
--- what `gather` gives: the raw cells, the four counts, and cause 9
-pub record Gathered (shapes : List ℕ) (meters : List Row) (table : List (List ℤ)) (counts : List ℕ) (lacks : Bool) : Type 0 where
-  pub cells_are : table ≡ table_of (raw_cell shapes meters)
-  pub counts-are : counts ≡ count_list (counts_of meters)
-  pub lacks-is : lacks ≡ any_lacks_shape shapes meters
+-- what `gather` answers: the four counts, in an `Err` where cause 9 applies
+abbrev pub gathered : List ℕ → List Row → Result Counts Counts
+gathered shapes meters = cond (any_lacks_shape shapes meters) (Err (counts_of meters)) (Ok (counts_of meters))
 
 -- what a meter that holds these words gives to a sum over the rows, and 0 for a meter that has no row
 unfoldable pub held_gives : (ℕ → ℕ → ℤ) → Option Held → ℤ

@@ -3,10 +3,20 @@
 
 ghost use Rattle.std.specs.Prelude.{◌≡◌};
 ghost use Rattle.cells.specs.Cells.{estimate_bit};
-ghost use Rattle.cells.specs.Helpers.{source_number};
+ghost use Rattle.cells.specs.Helpers.{status_in, source_number};
 
 pub mod cells;
 pub mod meters;
+
+use words::field::Field;
+
+// The three statuses of a meter, which a registration has as the numbers 0, 1 and 2.
+#[derive(Clone, Copy)]
+pub enum Status {
+    Disconnected,
+    DeEnergised,
+    Energised,
+}
 
 // Where a meter's energy comes from, in the order of the four counts.
 #[derive(Clone, Copy, Debug, PartialEq, Eq)]
@@ -22,6 +32,30 @@ pub enum Source {
 pub struct Use {
     pub source: Source,
     pub wh: Option<u64>,
+}
+
+// How many meters have each source.
+#[derive(Clone, Copy)]
+pub struct Counts {
+    pub actual: u64,
+    pub estimated: u64,
+    pub defaulted: u64,
+    pub idle: u64,
+}
+
+impl Status {
+    // The status of a registration, from word 1. A number that is none of the three is in no well-formed book, and taken as disconnected.
+    // Kept: numbers, since C programs write a status as one and word 1 holds it. They are told apart here and nowhere else.
+    #[tactic(auto, unfolding(crate::specs::Helpers::status_in))]
+    pub fn of(registration: u64) -> Status
+        ensures { result ≡ status_in registration }
+    {
+        match Field::STATUS.of(registration) {
+            2 => Status::Energised,
+            1 => Status::DeEnergised,
+            _ => Status::Disconnected,
+        }
+    }
 }
 
 impl Source {

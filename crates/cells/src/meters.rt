@@ -1,16 +1,13 @@
 // The energy of a meter, and the class it goes to.
+// Kept: registration and reading are passed as the two words that they are, and not as a `Held` of book: energy and class are defined over the
+// words, apart from what stores them, and a row has them side by side already.
 ghost use Rattle.std.specs.Prelude.{◌≡◌};
 ghost use Rattle.cells.specs.Energy.{used_de_energised, source_of, shape_of, lacks_shape};
 ghost use Rattle.cells.specs.Cells.{estimate_bit, class_of};
 ghost use Rattle.cells.specs.Helpers.{shape_if_set, use_of};
 
-use crate::{Source, Use};
+use crate::{Source, Status, Use};
 use words::field::Field;
-
-// Kept: a status is a number of `words::Registration`, which C programs write, and word 1 holds that number.
-const DE_ENERGISED: u64 = 1;
-
-pub const ENERGISED: u64 = 2;
 
 // Whether a de-energised meter uses its reading: if there is one and its code is actual.
 #[tactic(auto, unfolding(crate::specs::Energy::used_de_energised))]
@@ -21,16 +18,24 @@ fn used_de_energised(reading: u64) -> bool
 }
 
 // Where a meter's energy comes from.
-#[tactic(auto, unfolding(crate::specs::Energy::source_of, crate::specs::Energy::reading_source, crate::specs::Energy::used_de_energised))]
-pub fn source(registration: u64, reading: u64) -> Source
+// Kept: `if`, where a match on the status would stand: an allocation of 65,536 meters took 6.21 million instructions with one and 5.88 million so.
+#[tactic(auto, using(crate::proofs::Statuses::by_status), unfolding(crate::specs::Energy::reading_source, crate::specs::Energy::used_de_energised))]
+fn source(registration: u64, reading: u64) -> Source
     ensures { result ≡ source_of registration reading }
 {
-    match Field::STATUS.of(registration) {
-        ENERGISED if reading == words::NO_READING => Source::Defaulted,
-        ENERGISED if words::is_actual(Field::QUALITY.of(reading)) => Source::Actual,
-        ENERGISED => Source::Estimated,
-        DE_ENERGISED if used_de_energised(reading) => Source::Actual,
-        _ => Source::Idle,
+    let status = Status::of(registration);
+    if matches!(status, Status::Energised) {
+        if reading == words::NO_READING {
+            Source::Defaulted
+        } else if words::is_actual(Field::QUALITY.of(reading)) {
+            Source::Actual
+        } else {
+            Source::Estimated
+        }
+    } else if matches!(status, Status::DeEnergised) && used_de_energised(reading) {
+        Source::Actual
+    } else {
+        Source::Idle
     }
 }
 
@@ -49,12 +54,12 @@ fn shape(shapes: &[u32; 64], registration: u64) -> Option<u64>
 
 // Whether a meter is defaulted and its shape is missing: what `use_of` tells of it, for a caller that asks nothing else. Nearly every
 // meter has a reading, so that is looked at first.
-#[tactic(auto, unfolding(crate::specs::Energy::source_of, crate::specs::Energy::reading_source, crate::specs::Energy::lacks_shape_from))]
+#[tactic(auto, using(crate::proofs::Statuses::by_status), unfolding(crate::specs::Energy::reading_source, crate::specs::Energy::lacks_shape_from))]
 pub fn lacks_shape(shapes: &[u32; 64], registration: u64, reading: u64) -> bool
     ensures { result ≡ lacks_shape shapes.now registration reading }
 {
     reading == words::NO_READING
-        && Field::STATUS.of(registration) == ENERGISED
+        && matches!(Status::of(registration), Status::Energised)
         && shape(shapes, registration).is_none()
 }
 

@@ -9,7 +9,7 @@ use lib.IntN.{ℤ, pos, ◌+ℤ◌, +ℤ_idr}
 use lib.ListN.{length, take, drop, get_or, set, length-set, length-drop, take-append-drop, drop_of_length-le}
 use lib.Seq.{drop-cons, take-suc-set, drop-set-lt, append_snoc, set-get_or, get_or-drop, drop-drop, take_all}
 use borrow.Author.Tests.{lt-ltb, le-ltb}
-use Rattle.correction.specs.Volumes.{count_before, extra_wh, rounded_volumes}
+use Rattle.correction.specs.Volumes.{comes_before, count_before, extra_wh, rounded_volumes}
 use Rattle.correction.proofs.CountWhere.{bit, count_where}
 use Rattle.correction.proofs.Ranked.{rank_below, ranks-exactly}
 
@@ -35,14 +35,14 @@ none-served lack fractions i (v ∷ floors) (f ∷ fs) e z = by (rank_below lack
     by false others s = rw (+ℤ_idr v, others (omega arith))
 
 module _ (lack : ℕ) (fractions : List ℕ) (floors : List ℤ) where
-  pub hand-none : length floors ≡ length fractions → lack ≤ length fractions → HandedOut lack fractions floors floors lack 0
-  hand-none e h = record { long = e; rest = refl; left_is = sym (ranks-exactly lack 0 fractions h); volumes-are = refl }
+  pub hand-none : {n : ℕ} → length floors ≡ n → length fractions ≡ n → lack ≤ n → HandedOut lack fractions floors floors lack 0
+  hand-none e f h = record { long = e ∙ sym f; rest = refl; left_is = sym (ranks-exactly lack 0 fractions (omega arith)); volumes-are = refl }
 
 module _ {lack : ℕ} {fractions : List ℕ} {floors volumes : List ℤ} {left i : ℕ} (p : HandedOut lack fractions floors volumes left i) where
   -- all units are passed, or no Wh is left
-  pub hand-all : length fractions ≤ i → volumes ≡ rounded_volumes lack fractions 0 floors fractions
+  pub hand-all : {n : ℕ} → length fractions ≡ n → n ≤ i → volumes ≡ rounded_volumes lack fractions 0 floors fractions
   unfolding rounded_volumes
-  hand-all h =
+  hand-all f h =
       let k : length volumes ≤ i = omega (arith, p.long) in
       rw (p.volumes-are, drop_of_length-le volumes k, take_all i volumes k, append-nil)
 
@@ -83,7 +83,7 @@ module _ {lack : ℕ} {fractions : List ℕ} {floors volumes : List ℤ} {left i
       served : test ≡ true
       served = lt-ltb _ lack r
 
-      pub some_left : 0 < left
+      some_left : 0 < left
       some_left = omega (arith, count_next, ap bit served)
 
       pub hand-one : HandedOut lack fractions floors (set volumes i (get_or volumes i (pos 0) +ℤ pos 1)) (left - 1) (i + 1)
@@ -93,3 +93,31 @@ module _ {lack : ℕ} {fractions : List ℕ} {floors volumes : List ℤ} {left i
     hand-no r =
         let e : left - 0 ≡ left = omega arith in
         rw (+ℤ_idr, set-get_or, e) at (next false (le-ltb _ lack r))
+
+-- how many come before unit i: n of the units before unit j, and those of the others that do
+pub record CountedTo (fractions : List ℕ) (i n j : ℕ) : Type 0 where
+  pub counted : count_before i (get_or fractions i 0) 0 fractions ≡ n + count_before i (get_or fractions i 0) j (drop j fractions)
+
+module _ {fractions : List ℕ} {i n j : ℕ} (k : CountedTo fractions i n j) where
+  module _ (h : j < length fractions) where
+    next-count : count_before i (get_or fractions i 0) j (drop j fractions)
+        ≡ bit (comes_before i (get_or fractions i 0) j (get_or fractions j 0)) + count_before i (get_or fractions i 0) (suc j) (drop (suc j) fractions)
+    unfolding count_before
+    next-count = rw (drop-cons fractions j 0 h)
+
+    pub count-one : comes_before i (get_or fractions i 0) j (get_or fractions j 0) ≡ true → CountedTo fractions i (n + 1) (j + 1)
+    count-one e = record { counted = rw (add-one j) (omega (arith, k.counted, next-count, ap bit e)) }
+
+    pub count_no : comes_before i (get_or fractions i 0) j (get_or fractions j 0) ≡ false → CountedTo fractions i n (j + 1)
+    count_no e = record { counted = rw (add-one j) (omega (arith, k.counted, next-count, ap bit e)) }
+
+  pub count-all : length fractions ≤ j → count_before i (get_or fractions i 0) 0 fractions ≡ n
+  unfolding count_before
+  count-all h = k.counted ∙ rw (drop_of_length-le fractions h) (omega arith)
+
+-- a unit that fewer than `lack` come before finds a Wh left
+pub one_left : {lack : ℕ} {fractions : List ℕ} {floors volumes : List ℤ} {left i n j m : ℕ} → HandedOut lack fractions floors volumes left i → CountedTo fractions i n j
+    → length fractions ≡ m → i < m → m ≤ j → n < lack → 1 ≤ left
+one_left p k f h past r = some_left p (omega arith) (rw (count-all k (omega arith)) r)
+
+pub ruleset handing = (hand-none, hand-all, hand-last, one_left)

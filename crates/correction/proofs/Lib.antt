@@ -3,6 +3,7 @@ pub mod Filled
 -- from cells to sums
 pub mod Pairs
 pub mod RunningSums
+pub mod PairSums
 pub mod Sizes
 pub mod ChainSums
 -- the last watt-hours

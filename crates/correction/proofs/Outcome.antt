@@ -1,5 +1,5 @@
 -- What a correction gives: its ways, one for each cause and one for acceptance, and that the volumes of an accepted one add up to the Take and are less than 1 Wh from the exact shares.
-use Prim.Native.Nat.{ℕ, suc, ◌<◌}
+use Prim.Native.Nat.{ℕ, zero, suc, ◌<◌}
 use mathlib.Core.Path.{◌≡◌, refl, sym, ap, ◌∙◌}
 use mathlib.Core.Bool.{true, false}
 use mathlib.Core.List.{List}
@@ -14,6 +14,7 @@ use Rattle.refusals.specs.declared.Refusal.{Refusal}
 use Rattle.refusals.specs.declared.Refusal.TheVariants.{WeightedBelowOne, ToleranceExceeded}
 use Rattle.refusals.specs.Refusal.{number_of}
 use Rattle.refusals.proofs.Passed.{passed}
+use Rattle.refusals.proofs.Numbers.{not-accepted}
 use Rattle.integers.specs.Sum.{sum}
 use Rattle.integers.proofs.Linear.{linear}
 use Rattle.integers.proofs.Order.{lt-false}
@@ -34,23 +35,28 @@ module _ (take_wh : ℤ) (tolerance : ℕ) (sums : List UnitSums) where
 
   -- the ways, by the tests
   module _ (slice : List ℤ) where
-    refused : (r : Refusal) (k : ℕ) → number_of r ≡ suc k → sums_cause take_wh tolerance sums ≡ suc k → CorrectionGives take_wh tolerance sums slice (Err r) slice
-    unfolding volumes_written written_by
-    refused r k e h = record { number = e ∙ sym h; figures = tt; volumes = rw h }
+    written-refused : (k : ℕ) → (k ≡ accepted → ⊥) → slice ≡ written_by k take_wh sums slice
+    unfolding written_by
+    written-refused zero h = absurd (h refl)
+    written-refused (suc k) h = refl
+
+    pub way-refused : (r : Refusal) → number_of r ≡ sums_cause take_wh tolerance sums → CorrectionGives take_wh tolerance sums slice (Err r) slice
+    unfolding volumes_written
+    way-refused r e = record { number = e; figures = tt; volumes = written-refused _ (λ z. not-accepted r (e ∙ z)) }
 
     pub way-below : lt_z (weighted_total sums) (pos 1) ≡ true → CorrectionGives take_wh tolerance sums slice (Err WeightedBelowOne) slice
     unfolding sums_cause
-    way-below h = refused WeightedBelowOne 9 refl (rw h)
+    way-below h = way-refused WeightedBelowOne (rw h)
 
-    module _ (above : lt_z (weighted_total sums) (pos 1) ≡ false) where
-      pub way-exceeds : exceeds_tolerance tolerance (unallocated_of take_wh sums) (weighted_total sums) ≡ true → CorrectionGives take_wh tolerance sums slice (Err ToleranceExceeded) slice
-      unfolding sums_cause
-      way-exceeds h = refused ToleranceExceeded 10 refl (rw (above, h))
+    pub way-exceeds : lt_z (weighted_total sums) (pos 1) ≡ false → exceeds_tolerance tolerance (unallocated_of take_wh sums) (weighted_total sums) ≡ true
+        → CorrectionGives take_wh tolerance sums slice (Err ToleranceExceeded) slice
+    unfolding sums_cause
+    way-exceeds above h = way-refused ToleranceExceeded (rw (above, h))
 
-      pub way-accepted : {x : Corrected} {after : List ℤ} → exceeds_tolerance tolerance (unallocated_of take_wh sums) (weighted_total sums) ≡ false
-          → x ≡ corrected_of take_wh sums → after ≡ with_volumes (volumes_of take_wh sums) slice → CorrectionGives take_wh tolerance sums slice (Ok x) after
-      unfolding sums_cause volumes_written written_by
-      way-accepted h e v = record { number = rw (above, h); figures = e; volumes = rw (above, h) v }
+    pub way-accepted : {x : Corrected} {after : List ℤ} → sums_cause take_wh tolerance sums ≡ accepted
+        → x ≡ corrected_of take_wh sums → after ≡ with_volumes (volumes_of take_wh sums) slice → CorrectionGives take_wh tolerance sums slice (Ok x) after
+    unfolding volumes_written written_by
+    way-accepted h e v = record { number = sym h; figures = e; volumes = rw h v }
 
   -- an accepted correction
   module _ (no-cause : sums_cause take_wh tolerance sums ≡ accepted) (slice : List ℤ) where

@@ -10,7 +10,8 @@ use lib.ListN.{length, get_or, get_or-map}
 use borrow.Author.Tests.{leb-true}
 use Rattle.integers.specs.Sum.{sum}
 use Rattle.integers.proofs.Size.{size-plus, size-times}
-use Rattle.book.specs.Settings.{is_weight, all_of}
+use Rattle.std.specs.List.{list_all}
+use Rattle.book.specs.Settings.{is_weight}
 use Rattle.cells.specs.Cells.{count_from}
 use Rattle.cells.proofs.Totals.{total}
 use Rattle.correction.specs.Correction.{by_direction, net_of, weighted_of}
@@ -50,12 +51,12 @@ unfolding net_of sizes
 net-most class [] = omega arith
 net-most class (c ∷ cells) = omega (arith, size-plus (by_direction class c) (net_of (suc class) cells), direction-size class c, net-most (suc class) cells)
 
-pub weighted-most : (cells : List ℤ) (weights : List ℕ) → all_of is_weight weights ≡ true → nat_abs (weighted_of cells weights) ≤ 1000 * sizes cells
-unfolding weighted_of sizes all_of
+pub weighted-most : (cells : List ℤ) (weights : List ℕ) → list_all is_weight weights ≡ true → nat_abs (weighted_of cells weights) ≤ 1000 * sizes cells
+unfolding weighted_of sizes
 weighted-most [] weights h = omega arith
 weighted-most (c ∷ cells) [] h = omega arith
 weighted-most (c ∷ cells) (w ∷ weights) h =
-    let parts = (and-eq-true_iff (is_weight w) (all_of is_weight weights)).0 h in
+    let parts = (and-eq-true_iff (is_weight w) (list_all is_weight weights)).0 h in
     omega (
       arith,
       size-plus (c *ℤ pos w) (weighted_of cells weights),

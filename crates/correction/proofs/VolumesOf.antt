@@ -11,9 +11,8 @@ use lib.Signed.{◌<ℤ◌}
 use borrow.Author.Tests.{ltb-true, ltb-false}
 use Rattle.integers.specs.Sum.{sum}
 use Rattle.integers.specs.Quotient.{floor_of, fraction_of}
-use Rattle.integers.proofs.Linear.{linear, plus, minus}
-use Rattle.integers.proofs.Ring.{neg-minus}
-use Rattle.integers.proofs.Size.{size-positive, size-neg}
+use Rattle.integers.proofs.Linear.{linear, size, one_side, plus, minus}
+use Rattle.integers.proofs.Size.{size-positive}
 use Rattle.integers.proofs.Floor.{fraction-below, above_floor, below_next}
 use Rattle.std.proofs.lemmas.List.{get_or-map}
 use Rattle.correction.specs.declared.UnitSums.{UnitSums}
@@ -43,7 +42,8 @@ fractions-below u w j (x ∷ sums) p i f (later a) = fractions-below u w (suc j)
 floor-distance : (x w : ℤ) → pos 0 <ℤ w → nat_abs (floor_of x (nat_abs w) *ℤ w -ℤ x) < nat_abs w
 floor-distance x (pos d) p =
     let q : 0 < d = omega linear in
-    rw (← neg-minus x (floor_of x d *ℤ pos d), size-neg, above_floor x d q) (fraction-below x d q)
+    let z = floor_of x d *ℤ pos d -ℤ x in
+    omega (linear, size z, one_side z, above_floor x d q, fraction-below x d q)
 floor-distance x (negsuc d) p = absurd p.lt
 
 next-distance : (x w : ℤ) → pos 0 <ℤ w → 0 < fraction_of x (nat_abs w) → nat_abs ((floor_of x (nat_abs w) +ℤ pos 1) *ℤ w -ℤ x) < nat_abs w

@@ -1,14 +1,16 @@
 -- What the functions between the cells of the units and their volumes are held to.
 use Rattle.std.specs.Prelude.{ℕ, suc, ◌+◌, ◌*◌, ◌-◌, ◌≤◌, ◌<◌, ◌≡◌, cond, List, [], ◌∷◌, map, ℤ, pos, nat_abs, length, get_or, ◌<ℤ◌}
+use Rattle.std.specs.Int.Signed.{lt_z}
+use Rattle.refusals.specs.Causes.{refuse, accepted, weighted_below_one, tolerance_exceeded}
 use Rattle.integers.specs.declared.Quotient.{Quotient}
+use Rattle.integers.specs.Helpers.{energy_most, weighted_most}
 use Rattle.integers.specs.Rounding.{nearest_wh, dropped_thousandths}
 use Rattle.cells.specs.Cells.{is_loss_class, units}
 use Rattle.correction.specs.declared.UnitSums.{UnitSums}
 use Rattle.correction.specs.declared.UnitFigures.{UnitFigures}
 use Rattle.correction.specs.declared.AllUnits.{AllUnits}
 use Rattle.correction.specs.declared.Corrected.{Corrected}
-use Rattle.correction.specs.Correction.{net_of, weighted_of, net_in, weighted_in, share_floor, share_fraction}
-use Rattle.correction.specs.Outcome.{corrected_of}
+use Rattle.correction.specs.Correction.{net_of, weighted_of, net_in, weighted_in, share_floor, share_fraction, exceeds_tolerance}
 
 -- a raw cell as it counts: a loss rounded
 abbrev pub whole_cell : ℕ → ℤ → ℤ
@@ -44,7 +46,7 @@ unit_figures_of cells weights = record { sums = sums_of cells weights; droppings
 
 -- what `unit_sums` is held to: cells of a size that all cells together may reach, once rounded, and weights in range
 pub record UnitArguments (cells : List ℤ) (weights : List ℕ) : Type 0 where
-  pub cells-bound : (k : ℕ) → nat_abs (get_or (rounded_from 0 cells) k (pos 0)) ≤ 1400000000000
+  pub cells-bound : (k : ℕ) → nat_abs (get_or (rounded_from 0 cells) k (pos 0)) ≤ energy_most
   pub weights-bound : (k : ℕ) → get_or weights k 0 ≤ 1000
 
 -- what `all_units` is held to
@@ -62,11 +64,11 @@ no_sums = record { net = pos 0; weighted = pos 0 }
 
 -- U and W of a size that no full book exceeds
 pub record CorrectedBound (x : Corrected) : Type 0 where
-  pub u-bound : nat_abs x.unallocated ≤ 1400000000000
-  pub w-bound : nat_abs x.weighted ≤ 1400000000000000
+  pub u-bound : nat_abs x.unallocated ≤ energy_most
+  pub w-bound : nat_abs x.weighted ≤ weighted_most
 
 -- U and W as an allocation within tolerance has them
-pub record WithinTolerance (x : Corrected) : Type 0 where
+pub record IsWithinTolerance (x : Corrected) : Type 0 where
   pub sizes-bound : CorrectedBound x
   pub w-positive : pos 0 <ℤ x.weighted
   pub within-tolerance : nat_abs x.unallocated * 1000 ≤ nat_abs x.weighted
@@ -78,16 +80,10 @@ share_of x sums = record { floor = share_floor x.unallocated x.weighted sums; fr
 -- n and a of a size that no full book exceeds
 pub record UnitBound (sums : UnitSums) : Type 0 where
   pub net-bound : nat_abs sums.net ≤ 100000000000000000
-  pub weighted-bound : nat_abs sums.weighted ≤ 1400000000000000
-
--- what a share is worked from
-pub record UnitShareArguments (x : Corrected) (sums : UnitSums) : Type 0 where
-  pub within : WithinTolerance x
-  pub bound : UnitBound sums
+  pub weighted-bound : nat_abs sums.weighted ≤ weighted_most
 
 -- what `share_down` is held to
-pub record ShareDownArguments (x : Corrected) (sums : List UnitSums) (floors : List ℤ) : Type 0 where
-  pub within : WithinTolerance x
+pub record ShareDownArguments (sums : List UnitSums) (floors : List ℤ) : Type 0 where
   pub floors-long : length floors ≡ units
   pub bound : (k : ℕ) → UnitBound (get_or sums k no_sums)
 
@@ -102,17 +98,16 @@ order_key unit fraction = 32 * fraction + (31 - unit)
 
 -- fractions of a W as an allocation has it
 pub record FractionsBound (fractions : List ℕ) : Type 0 where
-  pub each : (k : ℕ) → k < units → get_or fractions k 0 ≤ 1400000000000000
+  pub each : (k : ℕ) → k < units → get_or fractions k 0 ≤ weighted_most
 
 -- what `order_keys` gives: the key of each unit
 pub record OrderKeys (fractions keys : List ℕ) : Type 0 where
   pub each-is : (k : ℕ) → k < units → get_or keys k 0 ≡ order_key k (get_or fractions k 0)
 
 -- what `hand_out` is held to
-pub record HandOutArguments (volumes : List ℤ) (fractions : List ℕ) (lack : ℕ) : Type 0 where
+pub record HandOutArguments (volumes : List ℤ) (lack : ℕ) : Type 0 where
   pub volumes-long : length volumes ≡ units
   pub lack-few : lack ≤ units
-  pub fractions-bound : FractionsBound fractions
   pub volumes-bound : (k : ℕ) → nat_abs (get_or volumes k (pos 0)) ≤ 1000000000000000000
 
 -- the sizes of numbers, added up
@@ -124,17 +119,17 @@ sizes (x ∷ xs) = nat_abs x + sizes xs
 pub record SumsArguments (take_wh : ℤ) (sums : List UnitSums) : Type 0 where
   pub take_bound : nat_abs take_wh ≤ 5000000000
   pub nets-bound : sizes (map net_in sums) ≤ 1390000000000
-  pub weighted-bound : sizes (map weighted_in sums) ≤ 1400000000000000
+  pub weighted-bound : sizes (map weighted_in sums) ≤ weighted_most
+
+-- causes 10 and 11 of U and W, "W below 1" first
+abbrev pub cause_of : ℕ → Corrected → ℕ
+cause_of tolerance x =
+    refuse (lt_z x.weighted (pos 1)) weighted_below_one (refuse (exceeds_tolerance tolerance x.unallocated x.weighted) tolerance_exceeded accepted)
 
 -- what the test of the tolerance is held to
 pub record ToleranceArguments (g : ℕ) (x : Corrected) : Type 0 where
   pub g-bound : g ≤ 1000
   pub sizes-bound : CorrectedBound x
-
--- what `apportion` is held to: U and W worked from the sums of the 32 units, within tolerance
-pub record ApportionArguments (take_wh : ℤ) (x : Corrected) (sums : List UnitSums) (volumes : List ℤ) : Type 0 where
-  pub shares : ShareDownArguments x sums volumes
-  pub is : x ≡ corrected_of take_wh sums
 
 -- what `correct_units` is held to: bounds on numbers
 pub record CorrectArguments (take_wh : ℤ) (tolerance : ℕ) (sums : List UnitSums) (volumes : List ℤ) : Type 0 where

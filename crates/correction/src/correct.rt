@@ -1,19 +1,19 @@
 // The correction of the units' sums: U and W, the causes that rest on them, and the volumes.
-ghost use Rattle.std.specs.Prelude.{◌≡◌};
+ghost use Rattle.std.specs.Prelude.{◌≡◌, IfOk};
+ghost use Rattle.refusals.specs.Refusal.{number_given};
 ghost use Rattle.correction.specs.Outcome.{corrected_of, CorrectionGives};
-ghost use Rattle.correction.specs.Correction.{exceeds_tolerance};
-ghost use Rattle.correction.specs.Volumes.{volumes_of};
-ghost use Rattle.correction.specs.Helpers.{SumsArguments, ToleranceArguments, ApportionArguments, CorrectArguments};
+ghost use Rattle.correction.specs.Helpers.{cause_of, CorrectedBound, SumsArguments, ToleranceArguments, CorrectArguments};
 
 use crate::shares::{hand_out, share_down};
-use crate::{Corrected, UnitSums};
+use crate::{Corrected, UnitSums, WithinTolerance};
 use refusals::Refusal;
 
 impl Corrected {
     // U and W of a Take and the sums of the 32 units.
     fn of(take_wh: i64, sums: &[UnitSums; 32]) -> Corrected
         requires { SumsArguments take_wh sums.now }
-        ensures { result ≡ corrected_of take_wh sums.now }
+        ensures is { result ≡ corrected_of take_wh sums.now }
+        ensures bound { CorrectedBound result }
     {
         let net: i64 = sums.iter().map(|x| x.net).sum();
         let weighted = sums.iter().map(|x| x.weighted).sum();
@@ -23,28 +23,26 @@ impl Corrected {
         }
     }
 
-    // Whether the size of U × 1,000,000 is above g × W.
-    fn exceeds(self, tolerance: u32) -> bool
+    // These U and W, unless W is below 1 or the size of U × 1,000,000 is above g × W.
+    #[tactic(auto, unfolding(crate::specs::Correction::exceeds_tolerance))]
+    fn within(self, tolerance: u32) -> Result<WithinTolerance, Refusal>
         requires { ToleranceArguments tolerance self }
-        ensures { result ≡ exceeds_tolerance tolerance self.unallocated self.weighted }
+        ensures number { number_given result ≡ cause_of tolerance self }
+        ensures same { IfOk result (λ within. within.corrected ≡ self) }
     {
+        if self.weighted < 1 {
+            return Err(Refusal::WeightedBelowOne);
+        }
         let most = u64::from(tolerance) * self.weighted.unsigned_abs();
-        most < self.unallocated.unsigned_abs() * 1_000_000
+        if most < self.unallocated.unsigned_abs() * 1_000_000 {
+            return Err(Refusal::ToleranceExceeded);
+        }
+        Ok(WithinTolerance { corrected: self })
     }
 }
 
-// The volumes of the 32 units into a part of 32 words: each share rounded down, and the Wh that lack handed out.
-fn apportion(take_wh: i64, corrected: Corrected, sums: &[UnitSums; 32], volumes: &mut [i64])
-    requires { ApportionArguments take_wh corrected sums.now volumes.old }
-    ensures { volumes.new ≡ volumes_of take_wh sums.now }
-{
-    let fractions = share_down(corrected, sums, volumes);
-    let shared: i64 = volumes.iter().sum();
-    let lack = (take_wh - shared).unsigned_abs();
-    hand_out(volumes, &fractions, lack);
-}
-
-// Corrects the sums of the 32 units to the Take: writes their volumes to the first 32 words of the slice.
+// Corrects the sums of the 32 units to the Take: writes their volumes to the first 32 words of the slice. Each is its share rounded
+// down, and the Wh that lack are handed out.
 pub fn correct_units(
     take_wh: i64,
     tolerance: u32,
@@ -55,12 +53,11 @@ pub fn correct_units(
     ensures { CorrectionGives take_wh tolerance sums.now volumes.old result volumes.new }
 {
     let corrected = Corrected::of(take_wh, sums);
-    if corrected.weighted < 1 {
-        return Err(Refusal::WeightedBelowOne);
-    }
-    if corrected.exceeds(tolerance) {
-        return Err(Refusal::ToleranceExceeded);
-    }
-    apportion(take_wh, corrected, sums, &mut volumes[0..32]);
+    let within = corrected.within(tolerance)?;
+    let part = &mut volumes[0..32];
+    let fractions = share_down(within, sums, part);
+    let shared: i64 = part.iter().sum();
+    let lack = (take_wh - shared).unsigned_abs();
+    hand_out(part, &fractions, lack);
     Ok(corrected)
 }

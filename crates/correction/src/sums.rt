@@ -16,6 +16,7 @@ fn by_direction(class: usize, c: i64) -> i64
 
 // n and a of a unit and its droppings, from its cells before rounding and the weights. The classes go in pairs of one direction:
 // consumption, and its losses.
+#[tactic(auto, using(crate::proofs::PairSums::pair_sums))]
 fn unit_sums(cells: &[i64; 24], weights: &[u32; 24]) -> UnitFigures
     requires { UnitArguments cells.now weights.now }
     ensures { result ≡ unit_figures_of cells.now weights.now }
@@ -53,7 +54,7 @@ pub fn all_units(cells: &[[i64; 24]; 32], weights: &[u32; 24]) -> AllUnits
         }; 32],
         droppings: [0; 32],
     };
-    // Kept: under a zip of `iter_mut` the proof stays open: it then knows the lengths of the two arrays, and no entry of them.
+    // Kept: tried with a zip of `iter_mut` of the two arrays, and the proof didn't close: std says nothing of what such a chain has written.
     for (unit, row) in cells.iter().enumerate() {
         let figures = unit_sums(row, weights);
         units.sums[unit] = figures.sums;

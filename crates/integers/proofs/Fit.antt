@@ -2,7 +2,7 @@
 use Prim.Native.Nat.{ℕ, ◌+◌, ◌*◌, ◌^◌, ◌≤◌, ◌<◌}
 use mathlib.Core.Path.{◌≡◌}
 use native.Mathlib.Nat.{le_refl}
-use lib.IntN.{ℤ, pos, negsuc, nat_abs, ◌+ℤ◌, ◌-ℤ◌, ◌*ℤ◌}
+use lib.IntN.{ℤ, pos, nat_abs, ◌+ℤ◌, ◌-ℤ◌, ◌*ℤ◌}
 use mir.Syntax.{w64}
 use mir.Val.{SFits, to_z, of_z}
 use mir.ValLaws.{to_z-of_z, to_z_pos}
@@ -43,7 +43,3 @@ module _ {m n : ℕ} {a b : ℤ} {A B : ℕ} (h : Held m a A) (k : Held n b B) w
 
   pub times-held : A * B < 2 ^ 63 → Held (of_z w64 (to_z w64 m *ℤ to_z w64 n)) (a *ℤ b) (A * B)
   times-held t = rw (h.reads, k.reads) (held (a *ℤ b) (A * B) (times-bound a b h.bound k.bound) t)
-
--- `-1 - n`
-pub down-from-minus-one : (n : ℕ) → negsuc 0 -ℤ pos n ≡ negsuc n
-down-from-minus-one n = omega linear

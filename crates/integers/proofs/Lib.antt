@@ -9,3 +9,4 @@ pub mod Floor
 pub mod Cut
 pub mod FloorSum
 pub mod Nearest
+pub mod Digit

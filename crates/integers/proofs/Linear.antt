@@ -18,6 +18,12 @@ pub size : (z : ℤ) → nat_abs z ≡ up z + down z
 size (pos n) = omega arith
 size (negsuc n) = omega arith
 
+-- the same, for a tactic to apply wherever it meets a number: `sized` knows what a bound of the size says
+pub sides : (z : ℤ) → up z + down z ≡ nat_abs z
+sides z = omega (arith, size z)
+
+pub ruleset sized = (linear, sides)
+
 module _ (a b : ℤ) where
   pub plus : up (a +ℤ b) + (down a + down b) ≡ down (a +ℤ b) + (up a + up b)
   plus = omega linear

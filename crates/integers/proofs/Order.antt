@@ -27,9 +27,6 @@ module _ {a b : ℤ} where
   pub antisymmetric : a ≤ℤ b → b ≤ℤ a → a ≡ b
   antisymmetric h k = omega linear
 
-  pub lt-of-next : (a +ℤ pos 1) ≤ℤ b → a <ℤ b
-  lt-of-next h = omega linear
-
   pub le-of-lt-next : a <ℤ (b +ℤ pos 1) → a ≤ℤ b
   le-of-lt-next h = omega linear
 

@@ -9,9 +9,6 @@ module _ (a b : ℤ) where
   pub plus-rest : a +ℤ (b -ℤ a) ≡ b
   plus-rest = omega linear
 
-  pub neg-minus : neg_ℤ (a -ℤ b) ≡ b -ℤ a
-  neg-minus = omega linear
-
   pub neg-times : neg_ℤ a *ℤ b ≡ neg_ℤ (a *ℤ b)
   neg-times = omega (linear, rw ((neg_is a).0, (neg_is a).1) at (product_is (neg_ℤ a) b))
 
@@ -19,9 +16,6 @@ module _ (a b : ℤ) where
   times-neg = omega (linear, rw ((neg_is b).0, (neg_is b).1) at (product_is a (neg_ℤ b)))
 
 module _ (a b c : ℤ) where
-  pub plus-left-comm : a +ℤ (b +ℤ c) ≡ b +ℤ (a +ℤ c)
-  plus-left-comm = omega linear
-
   pub times-plus : a *ℤ (b +ℤ c) ≡ a *ℤ b +ℤ a *ℤ c
   times-plus =
       omega (linear, ap (λ n. up a * n) (plus b c), ap (λ n. down a * n) (plus b c))

@@ -4,7 +4,7 @@
 ghost use Rattle.std.specs.Prelude.{◌≡◌, ◌≤◌, ◌*◌, ◌/◌, ◌^◌, pos, nat_abs, ◌+ℤ◌, ◌*ℤ◌, ◌<ℤ◌};
 ghost use Rattle.integers.specs.Quotient.{quotient_of};
 ghost use Rattle.integers.specs.Rounding.{rounded_of};
-ghost use Rattle.integers.specs.Helpers.{ShareArguments, DigitArguments};
+ghost use Rattle.integers.specs.Helpers.{energy_most, ShareArguments, DigitArguments};
 
 // A quotient rounded down, and the fraction above it, times the divisor.
 #[derive(Clone, Copy)]
@@ -64,6 +64,9 @@ pub fn nearest_wh(thousandths: i64) -> Rounded
 }
 
 // One more digit of the first factor, in base 2,048, after `done`, the quotient of what the digits before it give.
+// Kept: a and w are passed side by side, here and below, as `share_quotient` gets them, out of two structs of its caller: a struct of the two
+// would be made there and taken apart here. It would say three bounds once that stand in two records, for a type more.
+#[tactic(auto, using(crate::proofs::Digit::digit_sums))]
 fn next_digit(done: Quotient, digit: u64, a: i64, w: i64) -> Quotient
     requires { DigitArguments done digit a w }
     ensures { result ≡ quotient_of ((done.floor *ℤ w +ℤ pos done.fraction) *ℤ pos 2048 +ℤ pos digit *ℤ a) (nat_abs w) }
@@ -78,8 +81,8 @@ fn next_digit(done: Quotient, digit: u64, a: i64, w: i64) -> Quotient
 }
 
 // How many digits of m in base 2,048 there are to take: those above are 0. A U of up to 4,194,303 Wh has two.
-fn digits(m: u64) -> u64
-    requires { m ≤ 1400000000000 }
+fn digit_count(m: u64) -> u64
+    requires { m ≤ energy_most }
     ensures { (result ≤ 4) × (m / 2 ^ (11 * result) ≡ 0) }
 {
     if m < 2048 {
@@ -101,7 +104,7 @@ fn product_quotient(m: u64, a: i64, w: i64) -> Quotient
         floor: 0,
         fraction: 0,
     };
-    for i in (0..digits(m)).rev() {
+    for i in (0..digit_count(m)).rev() {
         done = next_digit(done, (m >> (11 * i)) % 2048, a, w);
     }
     done

@@ -7,18 +7,18 @@ use lib.IntN.{ℤ}
 use Rattle.std.specs.Prelude.{Result, Ok, Err}
 use Rattle.refusals.specs.declared.Refusal.{Refusal}
 use Rattle.refusals.specs.Causes.{accepted}
-use Rattle.refusals.specs.Refusal.{number_of, number_given}
+use Rattle.refusals.specs.Refusal.{number_of}
 use Rattle.refusals.proofs.Numbers.{not-accepted}
 use Rattle.book.specs.declared.Settings.{Settings}
 use Rattle.book.specs.Settings.{fresh_settings}
 use Rattle.book.specs.Book.{Book, fresh_book, well_formed, lent}
-use Rattle.book.specs.Helpers.{settings_after, answer_of}
+use Rattle.book.specs.Helpers.{answer_of}
 use Rattle.calls.specs.declared.Call.{Call}
 use Rattle.calls.specs.Calls.{book_after}
 use Rattle.allocation.specs.declared.Allocated.{Allocated}
 use Rattle.allocation.specs.declared.Figures.{Figures}
-use Rattle.allocation.specs.Allocate.{Allocation, refused_with, allocate_call}
-use Rattle.allocation.specs.Helpers.{allocated_of, AllocatedAs}
+use Rattle.allocation.specs.Allocate.{Allocation, refused_with, allocate_call, AllocationGives}
+use Rattle.allocation.specs.Helpers.{allocated_of, allocation_answer}
 use Rattle.meaning.specs.Demand.{allocation_after, ListSettled, Demanded, Demand3}
 use Rattle.meaning.proofs.Meant.{list-meant}
 use Rattle.meaning.proofs.Settles.{demand-3}
@@ -39,18 +39,17 @@ list-number b ws numbers = by (list_cause ws numbers)
     by zero = refl
     by (suc k) = refl
 
-module _ (words ws numbers : List ℕ) (slice : List ℤ) (made : Result Settings Refusal) (rows' numbers' : List ℕ) (given : ListGives (list_call (fresh_book words) ws numbers) (answer_of fresh_settings made) rows' numbers') where
-  cause-is : number_given made ≡ list_cause ws numbers
-  cause-is = given.number ∙ list-number (fresh_book words) ws numbers
-
-  pub half-hour-refused : {refusal : Refusal} → made ≡ Err refusal → SettleGives words ws numbers slice (record { answer = refused_with (number_of refusal); settings = fresh_settings }) rows' numbers' slice
+module _ (words ws numbers : List ℕ) (slice : List ℤ) (rows' numbers' : List ℕ) where
+  -- a list that is refused
+  pub half-hour-refused : (refusal : Refusal) → ListGives (list_call (fresh_book words) ws numbers) (answer_of fresh_settings (Err refusal)) rows' numbers'
+      → SettleGives words ws numbers slice (allocation_answer fresh_settings (Err refusal)) rows' numbers' slice
   unfolding list_call list_outcome settle_call settle_outcome
-  half-hour-refused {refusal} m = by (list_cause ws numbers) refl
+  half-hour-refused refusal given = by (list_cause ws numbers) refl
     where
       number : number_of refusal ≡ list_cause ws numbers
-      number = sym (ap number_given m) ∙ cause-is
+      number = given.number ∙ list-number (fresh_book words) ws numbers
 
-      by : (cause : ℕ) → list_cause ws numbers ≡ cause → SettleGives words ws numbers slice (record { answer = refused_with (number_of refusal); settings = fresh_settings }) rows' numbers' slice
+      by : (cause : ℕ) → list_cause ws numbers ≡ cause → SettleGives words ws numbers slice (allocation_answer fresh_settings (Err refusal)) rows' numbers' slice
       by zero e = absurd (not-accepted refusal (number ∙ e))
       by (suc k) e =
           let list = ap (λ (c : ℕ). list_outcome c (fresh_book words) ws numbers) e in
@@ -64,9 +63,10 @@ module _ (words ws numbers : List ℕ) (slice : List ℤ) (made : Result Setting
             settled = λ z. absurd (not-accepted refusal z);
           }
 
-  module _ {settings : Settings} (m : made ≡ Ok settings) where
+  -- a list that is made, and the allocation after it
+  module _ (settings : Settings) (given : ListGives (list_call (fresh_book words) ws numbers) (answer_of fresh_settings (Ok settings)) rows' numbers') where
     accepted-list : accepted ≡ list_cause ws numbers
-    accepted-list = sym (ap number_given m) ∙ cause-is
+    accepted-list = given.number ∙ list-number (fresh_book words) ws numbers
 
     list-is : list_call (fresh_book words) ws numbers ≡ list_outcome accepted (fresh_book words) ws numbers
     unfolding list_call
@@ -80,19 +80,19 @@ module _ (words ws numbers : List ℕ) (slice : List ℤ) (made : Result Setting
     unfolding list_outcome
     book-made =
         ap₂ (λ (s : Settings) (r : List ℕ). lent s r)
-        (sym (ap (settings_after fresh_settings) m) ∙ given.settings ∙ ap (λ (o : ListOutcome). o.book.settings) list-is)
+        (given.settings ∙ ap (λ (o : ListOutcome). o.book.settings) list-is)
         (given.rows ∙ ap (λ (o : ListOutcome). o.book.rows) list-is)
 
     pub half-hour-formed : well_formed (lent settings rows') ≡ true
     half-hour-formed = ap well_formed book-made ∙ (list-meant words (calls_in ws)).formed
 
-    pub half-hour-allocated : {outcome : Result Figures Refusal} {after : List ℤ} → AllocatedAs (allocate_call (lent settings rows') slice) outcome after
-        → SettleGives words ws numbers slice (record { answer = allocated_of outcome; settings = settings }) rows' numbers' after
+    pub half-hour-allocated : (outcome : Result Figures Refusal) (after : List ℤ) → AllocationGives (allocate_call (lent settings rows') slice) (allocation_answer settings outcome) rows' after
+        → SettleGives words ws numbers slice (allocation_answer settings outcome) rows' numbers' after
     unfolding list_outcome settle_outcome allocation_after Demand3
-    half-hour-allocated {outcome} {after} made =
+    half-hour-allocated outcome after made =
         let call = ap (λ (b : Book). allocate_call b slice) book-made in
-        let answered = made.answer-is ∙ ap (λ (o : Allocation). o.answer) call in
-        let written = made.volumes-are ∙ ap (λ (o : Allocation). o.volumes) call in
+        let answered = made.answer ∙ ap (λ (o : Allocation). o.answer) call in
+        let written = made.volumes ∙ ap (λ (o : Allocation). o.volumes) call in
         record {
           answer = answered ∙ sym (ap (λ (o : SettleOutcome). o.answer) whole_is);
           settings = ap (λ (b : Book). b.settings) book-made ∙ sym (ap (λ (o : SettleOutcome). o.book.settings) whole_is);

@@ -9,6 +9,7 @@ use borrow.Author.Tests.{eq-eqb, ne_eqb, lt-ltb, le-ltb}
 use lib.ListN.{length, get_or, set, take, drop, replicate}
 use lib.Seq.{take_all, take-suc, drop-cons, append_snoc, set_at, length-take-le}
 use Rattle.std.specs.Simd.{first_chunks}
+use Rattle.std.proofs.lemmas.List.{map-append, length-map}
 use Rattle.refusals.specs.Causes.{accepted, book_ill_formed, list_misshapen}
 use Rattle.book.specs.declared.Settings.{Settings}
 use Rattle.book.specs.declared.Answer.{Answer}
@@ -51,16 +52,8 @@ length-calls (suc n) ws = ap suc (length-calls n (drop call_words ws))
 abbrev pub calls_to : ℕ → List (List ℕ) → List Call
 calls_to i calls = map call_of (take i calls)
 
-map-append : (calls more : List (List ℕ)) → map call_of (calls ++ more) ≡ map call_of calls ++ map call_of more
-map-append [] more = refl
-map-append (c ∷ calls) more = ap (λ (l : List Call). call_of c ∷ l) (map-append calls more)
-
-length-calls-to : (calls : List (List ℕ)) → length (map call_of calls) ≡ length calls
-length-calls-to [] = refl
-length-calls-to (c ∷ calls) = ap suc (length-calls-to calls)
-
 calls-more : (i : ℕ) (calls : List (List ℕ)) (d : List ℕ) → i < length calls → calls_to (i + 1) calls ≡ calls_to i calls ++ call_of (get_or calls i d) ∷ []
-calls-more i calls d h = rw (add-one i, take-suc calls i d h) (map-append (take i calls) (get_or calls i d ∷ []))
+calls-more i calls d h = rw (add-one i, take-suc calls i d h) (map-append call_of (take i calls) (get_or calls i d ∷ []))
 
 -- the first i calls are made: the book and the numbers then
 pub record Made (start : Book) (calls : List (List ℕ)) (numbers₀ : List ℕ) (i : ℕ) (b : Book) (numbers : List ℕ) : Type 0 where
@@ -87,7 +80,7 @@ module _ (start : Book) (calls : List (List ℕ)) (numbers₀ : List ℕ) where
     next-numbers =
         let number = (call_outcome b call).number in
         let done = numbers_given start (calls_to i calls) in
-        let count : length done ≡ i = length-numbers start (calls_to i calls) ∙ length-calls-to (take i calls) ∙ length-take-le i calls (omega arith) in
+        let count : length done ≡ i = length-numbers start (calls_to i calls) ∙ length-map (take i calls) call_of ∙ length-take-le i calls (omega arith) in
         ap (λ (l : List ℕ). set l i number) (before.numbers-made ∙ ap (λ (l : List ℕ). done ++ l) (drop-cons numbers₀ i 0 within))
         ∙ set_at done (get_or numbers₀ i 0) (drop (suc i) numbers₀) number i count
         ∙ sym (append_snoc done number (drop (suc i) numbers₀))
@@ -125,7 +118,7 @@ module _ (s : Settings) (words ws numbers : List ℕ) where
   list-made m =
       let n = length ws / call_words in
       let calls = calls-in-arrays n ws in
-      let count : length (first_chunks call_words n ws) ≡ n = sym (length-calls-to (first_chunks call_words n ws)) ∙ ap length calls ∙ length-calls n ws in
+      let count : length (first_chunks call_words n ws) ≡ n = sym (length-map (first_chunks call_words n ws) call_of) ∙ ap length calls ∙ length-calls n ws in
       record {
         number = refl;
         settings = rw calls at m.settings;
@@ -144,19 +137,19 @@ module _ (s : Settings) (words ws numbers : List ℕ) where
         numbers = rw (numbers-ill-formed (lent s words) h calls, length-calls (length ws / call_words) ws);
       }
 
-  -- whether it is let in
-  module _ (whole : length ws % call_words ≡ 0) (room : length ws / call_words ≤ length numbers) where
+  -- whether it is let in: the calls in arrays are a whole number, and there is room for their numbers
+  module _ (calls : List (List ℕ)) (whole : length ws % call_words ≡ 0) (count : length calls ≡ length ws / call_words) (room : length calls ≤ length numbers) where
     let-in : list_call (lent s words) ws numbers ≡ list_outcome accepted (lent s words) ws numbers
     unfolding list_call list_cause
-    let-in = rw (eq-eqb (length ws % call_words) 0 whole, le-ltb (length numbers) (length ws / call_words) room)
+    let-in = rw (eq-eqb (length ws % call_words) 0 whole, le-ltb (length numbers) (length ws / call_words) (omega (arith, count, room)))
 
-    pub call-made : {made : Settings} {rows numbers_after : List ℕ} → MakesEach (lent s words) (first_chunks call_words (length ws / call_words) ws) numbers made rows numbers_after
+    pub call-made : {made : Settings} {rows numbers_after : List ℕ} → calls ≡ first_chunks call_words (length ws / call_words) ws → MakesEach (lent s words) calls numbers made rows numbers_after
         → ListGives (list_call (lent s words) ws numbers) (record { number = accepted; settings = made }) rows numbers_after
-    call-made m = rw let-in (list-made m)
+    call-made cut m = rw let-in (list-made (rw cut at m))
 
-    pub call-ill-formed : well_formed (lent s words) ≡ false → {numbers_after : List ℕ} → numbers_after ≡ replicate (length ws / call_words) book_ill_formed ++ drop (length ws / call_words) numbers
-        → ListGives (list_call (lent s words) ws numbers) (record { number = accepted; settings = s }) words numbers_after
-    call-ill-formed h e = rw (let-in, e) (list-ill-formed h)
+    pub call-ill-formed : well_formed (lent s words) ≡ false → {refused : List ℕ} → refused ≡ replicate (length calls) book_ill_formed
+        → ListGives (list_call (lent s words) ws numbers) (record { number = accepted; settings = s }) words (refused ++ drop (length calls) numbers)
+    call-ill-formed h e = rw (let-in, e, count) (list-ill-formed h)
 
   pub call-broken : (length ws % call_words ≡ 0 → ⊥) → ListGives (list_call (lent s words) ws numbers) (record { number = list_misshapen; settings = s }) words numbers
   unfolding list_call list_cause list_outcome
@@ -168,3 +161,5 @@ module _ (s : Settings) (words ws numbers : List ℕ) where
   call-without-room whole h =
       rw (eq-eqb (length ws % call_words) 0 whole, lt-ltb (length numbers) (length ws / call_words) h)
       (record { number = refl; settings = refl; rows = refl; numbers = refl })
+
+pub ruleset whole_lists = (call-made, call-ill-formed, call-broken, call-without-room)

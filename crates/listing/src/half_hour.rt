@@ -1,10 +1,19 @@
 // A whole half hour in one call.
+ghost use Rattle.allocation.specs.Helpers.{allocation_answer};
 ghost use Rattle.listing.specs.Settle.{SettleGives};
 
 use crate::list::make_calls;
+use allocation::Figures;
 use allocation::allocate::allocate_formed;
-use allocation::{Allocated, AllocationAnswer};
 use book::Settings;
+use refusals::Refusal;
+
+// What a half hour leaves beside what it writes: the settings after the list, and the outcome of the allocation.
+#[derive(Clone, Copy)]
+pub struct HalfHour {
+    pub settings: Settings,
+    pub outcome: Result<Figures, Refusal>,
+}
 
 // Makes a list of calls on a fresh book over these rows, writes the calls' numbers, and allocates. The book is not tested
 // again before the allocation: a list of calls from the fresh settings leaves it well formed.
@@ -13,16 +22,18 @@ pub fn settle_list(
     calls: &[u64],
     numbers: &mut [u64],
     volumes: &mut [i64],
-) -> AllocationAnswer
-    ensures { SettleGives rows.old calls.now numbers.old volumes.old result rows.new numbers.new volumes.new }
+) -> HalfHour
+    ensures { SettleGives rows.old calls.now numbers.old volumes.old (allocation_answer result.settings result.outcome) rows.new numbers.new volumes.new }
 {
     let fresh = Settings::fresh();
-    let (outcome, settings) = match make_calls(fresh, rows, calls, numbers) {
-        Ok(settings) => (allocate_formed(settings, rows, volumes), settings),
-        Err(refusal) => (Err(refusal), fresh),
-    };
-    AllocationAnswer {
-        answer: Allocated::from(outcome),
-        settings,
+    match make_calls(fresh, rows, calls, numbers) {
+        Ok(settings) => HalfHour {
+            settings,
+            outcome: allocate_formed(settings, rows, volumes),
+        },
+        Err(refusal) => HalfHour {
+            settings: fresh,
+            outcome: Err(refusal),
+        },
     }
 }

@@ -1,17 +1,16 @@
 // A whole list of calls in one call. The calls stand in a slice, twelve words a call: its kind, then its arguments.
 ghost use Rattle.std.specs.Prelude.{◌≡◌, true, ◌≤◌, length};
+ghost use Rattle.std.specs.Result.{result_ok};
 ghost use Rattle.book.specs.Book.{well_formed, lent};
 ghost use Rattle.book.specs.Helpers.{answer_of};
-ghost use Rattle.two_parts.specs.Apart.{rows_together, meters_of};
-ghost use Rattle.calls.specs.Calls.{call_outcome, Gives};
 ghost use Rattle.listing.specs.Listed.{registration_in, reading_in, call_of, list_call, ListGives};
 ghost use Rattle.listing.specs.Kind.{kind_of};
-ghost use Rattle.listing.specs.Helpers.{given, MakesEach};
+ghost use Rattle.listing.specs.Helpers.{MakesEach};
 
 use book::formed::is_formed;
-use book::replace::replace;
 use book::{Setting, Settings};
 use calls::Call;
+use calls::make::make;
 use refusals::{Refusal, number_given};
 use two_parts::Parts;
 use words::{Reading, Registration};
@@ -29,22 +28,26 @@ pub enum Kind {
     Take = 6,
 }
 
-impl Kind {
-    // The kind that a word stands for, if there is one.
-    // Kept: a match on numbers, since the words of a list are numbers that C programs write; no derive reads them, and a number of no kind
-    // is no error by itself, so that this is no `TryFrom`.
+// A word that stands for no kind.
+#[derive(Clone, Copy)]
+pub struct UnknownKind;
+
+impl TryFrom<u64> for Kind {
+    type Error = UnknownKind;
+
+    ghost try_from_gives = { λ word outcome. result_ok outcome ≡ kind_of word };
+
+    // Kept: a match on numbers, since the words of a list are numbers that C programs write, and no derive reads them.
     #[tactic(auto, unfolding(crate::specs::Kind::kind_of))]
-    fn of(word: u64) -> Option<Kind>
-        ensures { result ≡ kind_of word }
-    {
+    fn try_from(word: u64) -> Result<Kind, UnknownKind> {
         match word {
-            _ if word == Kind::Register as u64 => Some(Kind::Register),
-            _ if word == Kind::Reading as u64 => Some(Kind::Reading),
-            _ if word == Kind::Shape as u64 => Some(Kind::Shape),
-            _ if word == Kind::Weight as u64 => Some(Kind::Weight),
-            _ if word == Kind::Tolerance as u64 => Some(Kind::Tolerance),
-            _ if word == Kind::Take as u64 => Some(Kind::Take),
-            _ => None,
+            _ if word == Kind::Register as u64 => Ok(Kind::Register),
+            _ if word == Kind::Reading as u64 => Ok(Kind::Reading),
+            _ if word == Kind::Shape as u64 => Ok(Kind::Shape),
+            _ if word == Kind::Weight as u64 => Ok(Kind::Weight),
+            _ if word == Kind::Tolerance as u64 => Ok(Kind::Tolerance),
+            _ if word == Kind::Take as u64 => Ok(Kind::Take),
+            _ => Err(UnknownKind),
         }
     }
 }
@@ -53,17 +56,19 @@ impl Kind {
 fn registration_of(words: &[u64; CALL_WORDS]) -> Registration
     ensures { result ≡ registration_in words.now }
 {
+    let &[_, _, segment, direction, status, base, flag, additional, ..] = words;
+    let &[.., category, llf, network, tariff] = words;
     Registration {
-        segment: words[2],
-        direction: words[3],
-        status: words[4],
-        base: words[5],
-        flag: words[6],
-        additional: words[7],
-        category: words[8],
-        llf: words[9],
-        network: words[10],
-        tariff: words[11],
+        segment,
+        direction,
+        status,
+        base,
+        flag,
+        additional,
+        category,
+        llf,
+        network,
+        tariff,
     }
 }
 
@@ -71,62 +76,41 @@ fn registration_of(words: &[u64; CALL_WORDS]) -> Registration
 fn reading_of(words: &[u64; CALL_WORDS]) -> Reading
     ensures { result ≡ reading_in words.now }
 {
+    let &[_, _, issue, quality, consumption, ..] = words;
     Reading {
-        issue: words[2],
-        quality: words[3],
-        consumption: words[4],
+        issue,
+        quality,
+        consumption,
     }
 }
 
 // The call that twelve words give. An unknown kind stands for a setting that is out of range.
+#[tactic(auto, unfolding(crate::specs::Kind::kind_of, crate::specs::Listed::call_of, crate::specs::Listed::setting_in))]
 fn call_of(words: &[u64; CALL_WORDS]) -> Call
     ensures { result ≡ call_of words.now }
 {
-    let first = words[1];
-    match Kind::of(words[0]) {
-        Some(Kind::Register) => Call::Register {
+    let &[kind, first, second, ..] = words;
+    match Kind::try_from(kind) {
+        Ok(Kind::Register) => Call::Register {
             mpan: first,
             registration: registration_of(words),
         },
-        Some(Kind::Reading) => Call::Record {
+        Ok(Kind::Reading) => Call::Record {
             mpan: first,
             reading: reading_of(words),
         },
-        Some(Kind::Shape) => Call::Set(Setting::Shape {
+        Ok(Kind::Shape) => Call::Set(Setting::Shape {
             category: first,
-            wh: words[2],
+            wh: second,
         }),
-        Some(Kind::Weight) => Call::Set(Setting::Weight {
+        Ok(Kind::Weight) => Call::Set(Setting::Weight {
             class: first,
-            thousandths: words[2],
+            thousandths: second,
         }),
-        Some(Kind::Tolerance) => Call::Set(Setting::Tolerance(first)),
-        Some(Kind::Take) => Call::Set(Setting::GroupTake(first.cast_signed())),
-        None => Call::Set(Setting::Tolerance(Settings::TOLERANCE_MAX + 1)),
+        Ok(Kind::Tolerance) => Call::Set(Setting::Tolerance(first)),
+        Ok(Kind::Take) => Call::Set(Setting::GroupTake(first.cast_signed())),
+        Err(UnknownKind) => Call::Set(Setting::Tolerance(Settings::TOLERANCE_MAX + 1)),
     }
-}
-
-// Makes a call on a book that was tested before, whose rows stand in two parts. A register or reading call changes no setting but the
-// number of meters, so the settings are not copied for it.
-fn make_in_parts(made: &mut Settings, parts: &mut Parts, call: Call) -> Result<(), Refusal>
-    requires formed { well_formed (lent made.old (rows_together parts.old)) ≡ true }
-    requires counted { made.old.meters ≡ meters_of parts.old }
-    ensures same_slice { parts.new.rows.ghost_name ≡ parts.old.rows.ghost_name }
-    ensures counted { made.new.meters ≡ meters_of parts.new }
-    ensures gives { Gives (call_outcome (lent made.old (rows_together parts.old)) call) (given result made.new) (rows_together parts.new) }
-{
-    match call {
-        Call::Register { mpan, registration } => {
-            made.meters = parts.register(mpan, registration)?.meters;
-        }
-        Call::Record { mpan, reading } => {
-            made.meters = parts.record(mpan, reading)?.meters;
-        }
-        Call::Set(setting) => {
-            *made = replace(*made, setting)?;
-        }
-    }
-    Ok(())
 }
 
 // Makes each call of a list in turn, on a book that was tested before: accepted calls keep it well formed, so no call tests it again.
@@ -144,8 +128,9 @@ fn make_each(
 {
     let mut made = settings;
     let mut parts = Parts::new(rows, settings.meters);
+    // Kept: tried with a zip of `iter_mut`, and nothing is known then of the numbers it has written, as in `correction::sums::all_units`.
     for (i, words) in calls.iter().enumerate() {
-        let outcome = make_in_parts(&mut made, &mut parts, call_of(words));
+        let outcome = make(&mut made, &mut parts, call_of(words));
         numbers[i] = number_given(&outcome);
     }
     parts.merge();
@@ -154,6 +139,7 @@ fn make_each(
 
 // Makes the calls of a list in order, as making them one by one does, and writes their numbers. The book is tested once;
 // if it is ill formed, every call is refused for it.
+#[tactic(auto, using(crate::proofs::ListMade::whole_lists))]
 pub fn make_calls(
     settings: Settings,
     rows: &mut [u64],

@@ -8,7 +8,8 @@ use Rattle.integers.specs.Rounding.{nearest_wh, dropped_thousandths}
 use Rattle.words.specs.Mpan.{is_mpan}
 use Rattle.words.specs.Registration.{registration_of, registration_word, registration_in_range, is_registration, unit_of}
 use Rattle.words.specs.Reading.{reading_of, reading_word, is_actual, quality_allowed, reading_in_range, is_reading}
-use Rattle.book.specs.Settings.{take_formed, all_of, settings_formed, with_setting, setting_cause}
+use Rattle.std.specs.List.{list_all}
+use Rattle.book.specs.Settings.{take_formed, settings_formed, with_setting, setting_cause}
 use Rattle.book.specs.Rows.{capacity, rows_of, words_of, written, rows_formed, is_known, issue_held, with_registration, with_reading}
 use Rattle.book.specs.Book.{used_rows, well_formed}
 use Rattle.book.specs.Store.{has_no_room, registration_cause, reading_cause}
@@ -25,7 +26,7 @@ use Rattle.meaning.specs.Meaning.{only, gather, last_or, setting_set, weight_set
 
 -- the whole table
 pub worked-cases : T (cases_hold worked_cases)
-unfolding sum floor_of fraction_of nearest_wh dropped_thousandths is_mpan registration_of registration_word registration_in_range is_registration unit_of reading_of reading_word is_actual quality_allowed reading_in_range is_reading take_formed all_of settings_formed capacity rows_of words_of written rows_formed is_known issue_held with_registration with_reading used_rows well_formed outcome with_setting setting_cause has_no_room registration_cause reading_cause cause_after_test call_cause book_made call_outcome book_after numbers_given reading_source used_de_energised source_of shape_wh energy_from energy_wh lacks_shape_from any_lacks_shape count_for counts_of estimate_bit consumption_class in_cell sum_over consumption_cell loss_cell cell count_from cells_of net_of weighted_of unit_sums all_unit_sums unallocated_of weighted_total share_numerator share_floor share_fraction count_before extra_wh rounded_volumes lacking_wh volumes_from volumes_of exceeds_tolerance sums_cause meters_cause allocation_cause unit_droppings all_droppings figures_of with_volumes allocation_outcome allocate_call is_charged actual_from other_from is_idle one_of sum_where tariff_totals same same_numbers figure_holds figures_hold by_calls by_meaning case_holds holds cases_hold cases code_cases dropping_cases only gather last_or setting_set weight_set shape_set tolerance_set take_given meant_weight meant_shape meant_tolerance meant_take is_any meant_take_set mpan_registered without different meant_mpans registration_set meant_registration since_registered reading_free counted_readings higher_issue newest_reading meant_meter meant_meters meant_settings
+unfolding sum floor_of fraction_of nearest_wh dropped_thousandths is_mpan registration_of registration_word registration_in_range is_registration unit_of reading_of reading_word is_actual quality_allowed reading_in_range is_reading take_formed settings_formed capacity rows_of words_of written rows_formed is_known issue_held with_registration with_reading used_rows well_formed outcome with_setting setting_cause has_no_room registration_cause reading_cause cause_after_test call_cause book_made call_outcome book_after numbers_given reading_source used_de_energised source_of shape_wh energy_from energy_wh lacks_shape_from any_lacks_shape count_for counts_of estimate_bit consumption_class in_cell sum_over consumption_cell loss_cell cell count_from cells_of net_of weighted_of unit_sums all_unit_sums unallocated_of weighted_total share_numerator share_floor share_fraction count_before extra_wh rounded_volumes lacking_wh volumes_from volumes_of exceeds_tolerance sums_cause meters_cause allocation_cause unit_droppings all_droppings figures_of with_volumes allocation_outcome allocate_call is_charged actual_from other_from is_idle one_of sum_where tariff_totals same same_numbers figure_holds figures_hold by_calls by_meaning case_holds holds cases_hold cases code_cases dropping_cases only gather last_or setting_set weight_set shape_set tolerance_set take_given meant_weight meant_shape meant_tolerance meant_take is_any meant_take_set mpan_registered without different meant_mpans registration_set meant_registration since_registered reading_free counted_readings higher_issue newest_reading meant_meter meant_meters meant_settings
 worked-cases = tt
 
 -- of two tests that hold, the second may be put aside for one that follows from it

@@ -10,14 +10,16 @@ use Rattle.std.proofs.lemmas.Bool.Decides.{nat_tests}
 use lib.ListN.{length, get_or, drop, drop_of_length-le}
 use lib.Seq.{drop-cons}
 use Rattle.std.proofs.Common.{Option, None, Some}
-use Rattle.period_file.specs.Numbers.{is_digit, all_digits, value_after, digits_of}
+use Rattle.std.specs.Char.{is_ascii_digit}
+use Rattle.std.specs.List.{list_all}
+use Rattle.period_file.specs.Numbers.{value_after, digits_of}
 
-digit_range : (b : ℕ) → is_digit b ≡ true → (48 ≤ b) × (b ≤ 57)
+digit_range : (b : ℕ) → is_ascii_digit b ≡ true → (48 ≤ b) × (b ≤ 57)
 digit_range b h = grind (arith, nat_tests)
 
 -- what the bytes make after digits of value v
 unfoldable pub rest : ℕ → List ℕ → Option ℕ
-rest v text = cond (all_digits text) (Some (value_after v text)) None
+rest v text = cond (list_all is_ascii_digit text) (Some (value_after v text)) None
 
 module _ (text : List ℕ) where
   pub record Left (v i : ℕ) : Type 0 where
@@ -28,24 +30,24 @@ module _ (text : List ℕ) where
   unfolding digits_of rest
   none_read = record { decide = refl; below = omega arith }
 
-  next : (v i : ℕ) → i < length text → (t : Bool) → is_digit (get_or text i 0) ≡ t
+  next : (v i : ℕ) → i < length text → (t : Bool) → is_ascii_digit (get_or text i 0) ≡ t
       → rest v (drop i text) ≡ cond t (rest (10 * v + (get_or text i 0 - 48)) (drop (suc i) text)) None
-  unfolding rest all_digits value_after
+  unfolding rest value_after
   next v i h true e = rw (drop-cons text i 0, e)
   next v i h false e = rw (drop-cons text i 0, e)
 
-  pub one_read : (v i : ℕ) → i < length text → Left v i → is_digit (get_or text i 0) ≡ true → Left (10 * v + (get_or text i 0 - 48)) (i + 1)
+  pub one_read : (v i : ℕ) → i < length text → Left v i → is_ascii_digit (get_or text i 0) ≡ true → Left (10 * v + (get_or text i 0 - 48)) (i + 1)
   one_read v i h l t =
       record {
         decide = rw add-one (l.decide ∙ next v i h true t);
         below = rw add-one (rw (pow-succ' 10 i) (omega (arith, l.below, digit_range (get_or text i 0) t)));
       }
 
-  pub no_digit : (v i : ℕ) → i < length text → Left v i → is_digit (get_or text i 0) ≡ false → None ≡ digits_of text
+  pub no_digit : (v i : ℕ) → i < length text → Left v i → is_ascii_digit (get_or text i 0) ≡ false → None ≡ digits_of text
   no_digit v i h l t = sym (l.decide ∙ next v i h false t)
 
   pub all_read : (v i : ℕ) → length text ≤ i → Left v i → Some v ≡ digits_of text
-  unfolding rest all_digits value_after
+  unfolding rest value_after
   all_read v i h l = sym (l.decide ∙ ap (rest v) (drop_of_length-le text h))
 
   -- the value of at most 18 digits, and of at most 17 before another

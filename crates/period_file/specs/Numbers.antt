@@ -1,23 +1,15 @@
 -- "Numbers have 1 to 18 digits and no leading zeros; only take may have a minus, never before 0". A text is a list of bytes.
-use Rattle.std.specs.Prelude.{ℕ, ◌+◌, ◌*◌, ◌-◌, Bool, true, not, ◌&&◌, cond, List, [], ◌∷◌, Option, None, Some, leb, ltb, eqb, ℤ, pos, neg_ℤ, length, get_or}
+use Rattle.std.specs.Prelude.{ℕ, ◌+◌, ◌*◌, ◌-◌, Bool, not, ◌&&◌, cond, List, [], ◌∷◌, Option, None, Some, leb, ltb, eqb, ℤ, pos, neg_ℤ, length, get_or}
+use Rattle.std.specs.Char.{is_ascii_digit}
+use Rattle.std.specs.List.{list_all}
 use Rattle.std.specs.Option.{option_map, option_and_then}
 
--- the bytes 0, 9 and -
+-- the bytes 0 and -
 abbrev pub zero_byte : ℕ
 zero_byte = 48
 
-abbrev pub nine_byte : ℕ
-nine_byte = 57
-
 abbrev pub minus_byte : ℕ
 minus_byte = 45
-
-abbrev pub is_digit : ℕ → Bool
-is_digit byte = leb zero_byte byte && leb byte nine_byte
-
-unfoldable pub all_digits : List ℕ → Bool
-all_digits [] = true
-all_digits (byte ∷ text) = is_digit byte && all_digits text
 
 -- "Numbers are in base ten": the number that digits make after the digits of v
 unfoldable pub value_after : ℕ → List ℕ → ℕ
@@ -35,10 +27,11 @@ is_long_enough text = leb 1 (length text) && leb (length text) digits_most
 abbrev pub has_leading_zero : List ℕ → Bool
 has_leading_zero text = ltb 1 (length text) && eqb (get_or text 0 0) zero_byte
 
--- "Numbers have 1 to 18 digits and no leading zeros": the value of a text that is a number, and none for any other text
+-- the number that digits make, and none for a text with another byte
 unfoldable pub digits_of : List ℕ → Option ℕ
-digits_of text = cond (all_digits text) (Some (value_after 0 text)) None
+digits_of text = cond (list_all is_ascii_digit text) (Some (value_after 0 text)) None
 
+-- "Numbers have 1 to 18 digits and no leading zeros": the value of a text that is a number, and none for any other text
 unfoldable pub number_of : List ℕ → Option ℕ
 number_of text = cond (is_long_enough text && not (has_leading_zero text)) (digits_of text) None
 

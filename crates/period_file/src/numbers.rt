@@ -9,7 +9,7 @@ const ZERO: u8 = b'0';
 // The value of a text of digits. 18 of them stay below 10^18, so the sum never wraps.
 // Kept: std's `parse` would take a plus before the digits, which no number has; the length and leading zeros are tested anyway.
 #[tactic(auto, using(crate::proofs::Digits::digit_steps))]
-fn digits(text: &[u8]) -> Option<u64>
+fn read_digits(text: &[u8]) -> Option<u64>
     requires { length text.now ≤ 18 }
     ensures value { result ≡ digits_of text.now }
     ensures value_bound { IfSome result (λ n. n < 10 ^ 18) }
@@ -36,21 +36,19 @@ pub fn number(text: &[u8]) -> Option<u64>
     if let [ZERO, _, ..] = text {
         return None;
     }
-    digits(text)
+    read_digits(text)
 }
 
 // The number that a text is, where a minus may stand before a number that is not 0.
+// Kept: std's `parse` would take a plus, a minus before 0 and leading zeros.
 #[tactic(auto, using(crate::proofs::Prefixes::signed_by_test))]
 pub fn signed(text: &[u8]) -> Option<i64>
     ensures { result ≡ signed_of text.now }
 {
-    if let Some(after_minus) = text.strip_prefix(b"-") {
-        let size = number(after_minus)?;
-        if size == 0 {
-            return None;
-        }
-        return Some(-size.cast_signed());
+    match text.strip_prefix(b"-") {
+        Some(after_minus) => number(after_minus)
+            .filter(|size| *size != 0)
+            .map(|size| -size.cast_signed()),
+        None => number(text).map(|size| size.cast_signed()),
     }
-    let size = number(text)?;
-    Some(size.cast_signed())
 }

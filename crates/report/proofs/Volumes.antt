@@ -14,3 +14,5 @@ from_unit unit (suc i) (wh ∷ volumes) h =
 pub one_more : (i : ℕ) (volumes : List ℤ) → i < length volumes
     → volume_lines 0 (take (i + 1) volumes) ≡ volume_lines 0 (take i volumes) ++ volume_line i (get_or volumes i (pos 0))
 one_more i volumes h = let e : 0 + i ≡ i = omega arith in rw (add-one, from_unit 0 i volumes h, e)
+
+pub ruleset next_volume = (one_more, append_assoc)

@@ -1,10 +1,7 @@
 -- The bytes of the input one by one, and chunks of it.
-use Rattle.std.proofs.Common.{◌≡◌, ℕ, ◌+◌, ◌*◌, ◌<◌, false, List, [], ◌∷◌, ◌++◌, length, get_or, take, refl, append_assoc, append-nil, arith}
+use Rattle.std.proofs.Common.{◌≡◌, ℕ, ◌+◌, ◌<◌, false, List, [], ◌∷◌, ◌++◌, length, get_or, take, refl, append_assoc, append-nil}
 use Rattle.std.proofs.lemmas.List.{take_more}
-use Rattle.arrayvec.specs.ArrayVec.{ArrayVec}
 use Rattle.settle_run.specs.Program.{Work, quiet, is_reading, after, take_byte, take_bytes}
-use Rattle.settle_run.specs.Helpers.{Took}
-use Rattle.settle_run.proofs.Steps.{larger, next}
 
 -- after the end of the program a byte does nothing
 pub no_more : (w : Work) (byte : ℕ) → is_reading w.phase ≡ false → take_byte w byte ≡ quiet w
@@ -22,10 +19,9 @@ unfolding take_bytes
 by_one w byte = rw (append-nil (take_byte w byte).text)
 
 -- the bytes below one place, and the byte there
-pub one-taken : (start : Work) (bytes : List ℕ) (at : ℕ) {a b c : ArrayVec ℕ} {w v : Work} → at < length bytes
-    → Took (take_bytes start (take at bytes)) (50 * at) a w b → Took (take_byte w (get_or bytes at 0)) 50 b v c
-    → Took (take_bytes start (take (at + 1) bytes)) (50 * (at + 1)) a v c
-one-taken start bytes at h p q =
+pub one_taken : (w : Work) (bytes : List ℕ) (at : ℕ) → at < length bytes
+    → take_bytes w (take (at + 1) bytes)
+    ≡ after (take_bytes w (take at bytes)).text (take_byte (take_bytes w (take at bytes)).work (get_or bytes at 0))
+one_taken w bytes at h =
     let byte = get_or bytes at 0 in
-    rw (take_more bytes at 0, chunks start (take at bytes) (byte ∷ []), by_one (take_bytes start (take at bytes)).work byte)
-    (larger (50 * (at + 1)) (omega arith) (next (λ w. take_byte w byte) p q))
+    rw (take_more bytes at 0, chunks w (take at bytes) (byte ∷ []), by_one (take_bytes w (take at bytes)).work byte)

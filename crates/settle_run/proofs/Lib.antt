@@ -1,6 +1,4 @@
 -- Laws of the program's definitions, each cited by the functions that gather and print.
-pub mod Steps
-pub mod LineEnds
 pub mod Bytes
 pub mod Example
 pub mod Attempts

@@ -1,12 +1,10 @@
 -- What the program does with the bytes that its reader has left and its writer holds, where those are known.
-use Rattle.std.specs.Prelude.{◌≡◌, ◌≢◌, ◌⊎◌, ℕ, Option, List, [], ◌++◌}
+use Rattle.std.specs.Prelude.{◌≡◌, ◌≢◌, ◌⊎◌, ℕ, true, Option, List, [], ◌++◌}
 use Rattle.std.specs.IoError.{error_kind}
 use Rattle.std.specs.declared.io.Error.{Error}
 use Rattle.std.specs.declared.io.ErrorKind.TheVariants.{Interrupted, WouldBlock}
 use Rattle.std.specs.Io.KnownBytes.{Appends, Consumes, IsAtEnd}
-use Rattle.arrayvec.specs.ArrayVec.{ArrayVec}
-use Rattle.settle_run.specs.declared.Phase.TheVariants.{Reading}
-use Rattle.settle_run.specs.Program.{Work, Attempt, gave, again, failed, take_bytes, ended}
+use Rattle.settle_run.specs.Program.{Step, is_reading, Attempt, gave, again, failed, take_bytes, ended}
 use Rattle.settle_run.specs.Helpers.{Turned}
 
 -- a failure after which a call may be made again: a signal came, or a pipe that does not wait is full or empty for now
@@ -28,26 +26,26 @@ pub record AppendsSome (written written₂ : Option (List ℕ)) (bytes : List �
 
 -- what one turn leaves: what waited was written, the attempt did not fail, the reader lost the bytes that it gave, and one that gave
 -- none was at the end
-pub record TurnedOver (before : Work) (waited : ArrayVec ℕ) (w : Work) (waits : ArrayVec ℕ) (left left₂ written written₂ : Option (List ℕ)) : Type 0 where
-  pub turned : Turned before w waits
+pub record TurnedOver (before now : Step) (left left₂ written written₂ : Option (List ℕ)) : Type 0 where
+  pub turned : Turned before now
   pub went_on : turned.attempt ≢ failed
   pub consumed : Consumes left left₂ (given_by turned.attempt)
   pub at_end : turned.attempt ≡ gave [] → IsAtEnd left₂
-  pub appended : Appends written written₂ waited.items
+  pub appended : Appends written written₂ before.text
 
 -- what all turns leave: the reader lost some bytes, the work is that of these bytes, what they print was written or waits, and
 -- nothing is left to read unless a line out of form came
-pub record ReadOver (before : Work) (waited : ArrayVec ℕ) (w : Work) (waits : ArrayVec ℕ) (left left₂ written written₂ : Option (List ℕ)) : Type 0 where
+pub record ReadOver (before now : Step) (left left₂ written written₂ : Option (List ℕ)) : Type 0 where
   pub bytes : List ℕ
   pub consumed : Consumes left left₂ bytes
-  pub at_end : (take_bytes before bytes).work.phase ≡ Reading → IsAtEnd left₂
-  pub work : w ≡ ended (take_bytes before bytes).work
+  pub at_end : is_reading (take_bytes before.work bytes).work.phase ≡ true → IsAtEnd left₂
+  pub work : now.work ≡ ended (take_bytes before.work bytes).work
   pub text : List ℕ
   pub appended : Appends written written₂ text
-  pub printed : text ++ waits.items ≡ waited.items ++ (take_bytes before bytes).text
+  pub printed : text ++ now.text ≡ before.text ++ (take_bytes before.work bytes).text
 
 -- what turns leave that a failure broke off: the reader lost some bytes, and a beginning of what they print was written
-pub record BrokenOff (before : Work) (waited : ArrayVec ℕ) (left left₂ written written₂ : Option (List ℕ)) : Type 0 where
+pub record BrokenOff (before : Step) (left left₂ written written₂ : Option (List ℕ)) : Type 0 where
   pub bytes : List ℕ
   pub consumed : Consumes left left₂ bytes
-  pub begun : AppendsSome written written₂ (waited.items ++ (take_bytes before bytes).text)
+  pub begun : AppendsSome written written₂ (before.text ++ (take_bytes before.work bytes).text)

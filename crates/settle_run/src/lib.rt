@@ -13,7 +13,6 @@ ghost use Rattle.settle_run.specs.Helpers.{HasRoom, Read};
 ghost use Rattle.settle_run.specs.Streams.{AppendsSome, Passes, ReadOver, BrokenOff};
 
 use crate::lines::Progress;
-use arrayvec::ArrayVec;
 use std::io;
 use std::io::{Read, Write};
 use std::time::Clock;
@@ -24,9 +23,6 @@ pub(crate) const ROW_WORDS: usize = 1_536;
 // A byte of the input prints at most 50 bytes, and the end of the input at most 2,098: a text of this size holds what one
 // read of at most 1,024 bytes and the end of the input can print.
 pub(crate) const OUT_BYTES: usize = 65_536;
-
-// The text that waits to be written.
-pub(crate) type Waiting = ArrayVec<u8, OUT_BYTES>;
 
 // How far the work is: the end of the input was met, or a line out of form ended it.
 #[derive(Clone, Copy, Debug, PartialEq, Eq)]
@@ -42,21 +38,20 @@ fn read_all<R: Read, W: Write>(
     reader: &mut R,
     writer: &mut W,
     progress: &mut Progress,
-    out: &mut Waiting,
 ) -> io::Result<()>
-    requires { HasRoom out.old }
-    ensures ok { OnOk result (Read progress.old progress.new out.new) }
-    ensures streams { OnOk result (ReadOver progress.old out.old progress.new out.new (R.remaining reader.old) (R.remaining reader.new) (W.contents writer.old) (W.contents writer.new)) }
+    requires { HasRoom progress.old }
+    ensures ok { OnOk result (Read progress.old progress.new) }
+    ensures streams { OnOk result (ReadOver progress.old progress.new (R.remaining reader.old) (R.remaining reader.new) (W.contents writer.old) (W.contents writer.new)) }
     ensures lasting { IfErr result (λ e. ¬ Passes e) }
-    ensures err { OnErr result (Read progress.old progress.new out.new) }
-    ensures begun { OnErr result (BrokenOff progress.old out.old (R.remaining reader.old) (R.remaining reader.new) (W.contents writer.old) (W.contents writer.new)) }
+    ensures err { OnErr result (Read progress.old progress.new) }
+    ensures begun { OnErr result (BrokenOff progress.old (R.remaining reader.old) (R.remaining reader.new) (W.contents writer.old) (W.contents writer.new)) }
 {
     // Kept: a loop that may not end asks for a handle, and the project allows none: this counts turns that no run uses up.
     for _ in 0..output::TURNS {
         if !progress.is_reading() {
             return Ok(());
         }
-        input::turn(clock, reader, writer, progress, out)?;
+        input::turn(clock, reader, writer, progress)?;
     }
     Err(output::out_of_turns())
 }
@@ -68,8 +63,7 @@ pub fn run<R: Read, W: Write>(clock: &impl Clock, reader: &mut R, writer: &mut W
     ensures err { OnErr result (IfSome (R.remaining reader.old) (λ input. AppendsSome (W.contents writer.old) (W.contents writer.new) (settle_text (replicate ROW_WORDS 0) input))) }
 {
     let mut progress = Progress::fresh();
-    let mut out = ArrayVec::new();
-    read_all(clock, reader, writer, &mut progress, &mut out)?;
-    progress.finish(&mut out);
-    output::flush(clock, writer, &mut out)
+    read_all(clock, reader, writer, &mut progress)?;
+    progress.finish();
+    progress.flush(clock, writer)
 }

@@ -1,11 +1,14 @@
 // Lines gathered from the bytes that reads give, whatever the sizes of the reads, and what is printed of them.
-ghost use Rattle.std.specs.Prelude.{◌≡◌, ◌+◌, ◌*◌, ◌≤◌, length, replicate};
-ghost use Rattle.arrayvec.specs.ArrayVec.{array_vec_len, Extends};
+ghost use Rattle.std.specs.Prelude.{◌≡◌, ◌+◌, ◌*◌, ◌≤◌, ◌++◌, IfErr, OnOk, OnErr, length, replicate};
+ghost use Rattle.std.specs.Io.KnownBytes.{Appends};
 ghost use Rattle.settle_run.specs.declared.TheConstants.{OUT_BYTES};
-ghost use Rattle.settle_run.specs.Program.{is_reading, has_ended, fresh_work, out_of_form, end_line, take_byte, take_bytes, take_read, end_input, closing_text, end_text};
+ghost use Rattle.settle_run.specs.Program.{is_reading, fresh_work, quiet, out_of_form, end_line, take_byte, take_bytes, take_read, end_input, closing_text, end_text};
 ghost use Rattle.settle_run.specs.Helpers.{Took};
+ghost use Rattle.settle_run.specs.Streams.{AppendsSome, Passes};
 
-use crate::{Phase, ROW_WORDS, Waiting};
+use crate::output::{pass_on, write_out};
+use crate::{OUT_BYTES, Phase, ROW_WORDS};
+use allocation::Allocated;
 use allocation::allocate::allocate;
 use arrayvec::ArrayVec;
 use book::Settings;
@@ -13,11 +16,14 @@ use period_file::LineKind;
 use period_file::answer::answer_line;
 use period_file::lines::LINE_MAX;
 use report::lines::{put_allocation, put_bad_line, put_refused};
+use std::io;
+use std::io::Write;
 use std::marker::Model;
+use std::time::Clock;
 
 const LINE_FEED: u8 = b'\n';
 
-// What is held between two bytes of the input.
+// What is held between two bytes of the input, with the text that was printed and not yet written.
 #[derive(Drop)]
 pub struct Progress {
     settings: Settings,
@@ -28,20 +34,25 @@ pub struct Progress {
     // The number of the line that is being gathered, and its bytes so far.
     number: u64,
     gathered: ArrayVec<u8, LINE_MAX>,
+    // The text that waits to be written.
+    waiting: ArrayVec<u8, OUT_BYTES>,
 }
 
 impl Model for Progress {
     ghost use Rattle.book.specs.Book.{lent};
-    ghost use Rattle.settle_run.specs.Program.{Work};
+    ghost use Rattle.settle_run.specs.Program.{Step};
 
-    ghost Value = { Work };
+    ghost Value = { Step };
 
     ghost view = { λ p. record {
-      book = lent p.settings p.rows;
-      phase = p.phase;
-      last_kind = p.last_kind;
-      number = p.number;
-      gathered = p.gathered.items;
+      work = record {
+        book = lent p.settings p.rows;
+        phase = p.phase;
+        last_kind = p.last_kind;
+        number = p.number;
+        gathered = p.gathered.items;
+      };
+      text = p.waiting.items;
     } };
 }
 
@@ -49,7 +60,7 @@ impl Progress {
     // Before the first byte.
     // Kept: named as the constructor of the settings is, and no `Default`: the first line is 1, and a derive would give 0.
     pub fn fresh() -> Progress
-        ensures { result ≡ fresh_work (replicate ROW_WORDS 0) }
+        ensures { result ≡ quiet (fresh_work (replicate ROW_WORDS 0)) }
     {
         Progress {
             settings: Settings::fresh(),
@@ -58,38 +69,35 @@ impl Progress {
             last_kind: None,
             number: 1,
             gathered: ArrayVec::new(),
+            waiting: ArrayVec::new(),
         }
     }
 
     pub fn is_reading(&self) -> bool
-        ensures { result ≡ is_reading self.now.phase }
+        ensures { result ≡ is_reading self.now.work.phase }
     {
         self.phase == Phase::Reading
     }
 
-    fn has_ended(&self) -> bool
-        ensures { result ≡ has_ended self.now.phase }
-    {
-        self.phase == Phase::InputEnded
-    }
-
     // A line out of form: its number is printed, and the program ends.
-    fn stop(&mut self, out: &mut Waiting)
-        requires { array_vec_len out.old + 50 ≤ OUT_BYTES }
-        ensures { Took (out_of_form self.old) 50 out.old self.new out.new }
+    // Kept: each asks for the room of what it prints, which differs from one to the next, so that no invariant of the type says it.
+    fn stop(&mut self)
+        requires { length self.old.text + 50 ≤ OUT_BYTES }
+        ensures { Took (out_of_form self.old.work) 50 self.old self.new }
     {
-        put_bad_line(out, self.number);
+        put_bad_line(&mut self.waiting, self.number);
         self.phase = Phase::Stopped;
     }
 
     // The end of a line: its call is made, and a refusal printed.
-    fn end_line(&mut self, out: &mut Waiting)
-        requires { array_vec_len out.old + 50 ≤ OUT_BYTES }
-        ensures { Took (end_line self.old) 50 out.old self.new out.new }
+    #[tactic(auto, unfolding(crate::specs::Program::end_line))]
+    fn end_line(&mut self)
+        requires { length self.old.text + 50 ≤ OUT_BYTES }
+        ensures { Took (end_line self.old.work) 50 self.old self.new }
     {
         let line = self.gathered.as_slice();
         let Some(taken) = answer_line(self.settings, self.last_kind, &mut self.rows, line) else {
-            return self.stop(out);
+            return self.stop();
         };
         let number = self.number;
         self.number = number.wrapping_add(1);
@@ -97,84 +105,98 @@ impl Progress {
         self.gathered.clear();
         match taken.outcome {
             Ok(settings) => self.settings = settings,
-            Err(refusal) => put_refused(out, number, u64::from(refusal)),
+            Err(refusal) => put_refused(&mut self.waiting, number, u64::from(refusal)),
         }
     }
 
     // One byte of the input; after a line out of form none changes anything.
     #[tactic(auto, unfolding(crate::specs::Program::take_byte))]
-    fn take_byte(&mut self, byte: u8, out: &mut Waiting)
-        requires { array_vec_len out.old + 50 ≤ OUT_BYTES }
-        ensures { Took (take_byte self.old byte) 50 out.old self.new out.new }
+    fn take_byte(&mut self, byte: u8)
+        requires { length self.old.text + 50 ≤ OUT_BYTES }
+        ensures { Took (take_byte self.old.work byte) 50 self.old self.new }
     {
         if !self.is_reading() {
             return;
         }
         if byte == LINE_FEED {
-            return self.end_line(out);
+            return self.end_line();
         }
         if self.gathered.is_full() {
-            return self.stop(out);
+            return self.stop();
         }
         self.gathered.push(byte);
     }
 
     // Takes all of the bytes.
-    #[tactic(auto, unfolding(crate::specs::Program::take_bytes))]
-    fn feed(&mut self, bytes: &[u8], out: &mut Waiting)
-        requires { array_vec_len out.old + 50 * length bytes.now ≤ OUT_BYTES }
-        ensures { Took (take_bytes self.old bytes.now) (50 * length bytes.now) out.old self.new out.new }
+    #[tactic(auto, using(crate::proofs::Bytes::one_taken, std::proofs::lemmas::Grind::common_steps), unfolding(crate::specs::Program::take_bytes))]
+    fn feed(&mut self, bytes: &[u8])
+        requires { length self.old.text + 50 * length bytes.now ≤ OUT_BYTES }
+        ensures { Took (take_bytes self.old.work bytes.now) (50 * length bytes.now) self.old self.new }
     {
         for byte in bytes {
-            self.take_byte(*byte, out);
+            self.take_byte(*byte);
         }
     }
 
     // What one read gave; no bytes are the end of the input.
     #[tactic(auto, unfolding(crate::specs::Program::take_read))]
-    pub fn take_read(&mut self, bytes: &[u8], out: &mut Waiting)
-        requires { array_vec_len out.old + 50 * length bytes.now ≤ OUT_BYTES }
-        ensures { Took (take_read self.old bytes.now) (50 * length bytes.now) out.old self.new out.new }
+    pub fn take_read(&mut self, bytes: &[u8])
+        requires { length self.old.text + 50 * length bytes.now ≤ OUT_BYTES }
+        ensures { Took (take_read self.old.work bytes.now) (50 * length bytes.now) self.old self.new }
     {
         if bytes.is_empty() {
             self.phase = Phase::InputEnded;
         } else {
-            self.feed(bytes, out);
+            self.feed(bytes);
         }
     }
 
     // The end of the input: the last line's end may be missing.
     #[tactic(auto, unfolding(crate::specs::Program::end_input))]
-    fn end_input(&mut self, out: &mut Waiting)
-        requires { array_vec_len out.old + 50 ≤ OUT_BYTES }
-        ensures { Took (end_input self.old) 50 out.old self.new out.new }
+    fn end_input(&mut self)
+        requires { length self.old.text + 50 ≤ OUT_BYTES }
+        ensures { Took (end_input self.old.work) 50 self.old self.new }
     {
-        if self.has_ended() && !self.gathered.is_empty() {
-            self.end_line(out);
+        if self.phase == Phase::InputEnded && !self.gathered.is_empty() {
+            self.end_line();
         }
     }
 
     // Allocates, where the whole input was in form, and prints the outcome.
     #[tactic(auto, unfolding(crate::specs::Program::closing_text))]
-    fn print_allocation(&self, out: &mut Waiting)
-        requires { array_vec_len out.old + 2048 ≤ OUT_BYTES }
-        ensures text { Extends out.old (closing_text self.now) out.new }
-        ensures short { array_vec_len out.new ≤ array_vec_len out.old + 2048 }
+    fn print_allocation(&mut self)
+        requires { length self.old.text + 2048 ≤ OUT_BYTES }
+        ensures text { self.new.text ≡ self.old.text ++ closing_text self.old.work }
+        ensures short { length self.new.text ≤ length self.old.text + 2048 }
     {
-        if self.has_ended() {
+        if self.phase == Phase::InputEnded {
             let mut volumes = [0i64; 32];
-            let made = allocate(self.settings, &self.rows, &mut volumes);
-            put_allocation(out, made.answer, &volumes);
+            let outcome = allocate(self.settings, &self.rows, &mut volumes);
+            put_allocation(&mut self.waiting, Allocated::from(outcome), &volumes);
         }
     }
 
     // Prints what comes once the input has ended.
     #[tactic(auto, unfolding(crate::specs::Program::end_text))]
-    pub fn finish(&mut self, out: &mut Waiting)
-        requires { array_vec_len out.old + 2098 ≤ OUT_BYTES }
-        ensures { Extends out.old (end_text self.old) out.new }
+    pub fn finish(&mut self)
+        requires { length self.old.text + 2098 ≤ OUT_BYTES }
+        ensures { self.new.text ≡ self.old.text ++ end_text self.old.work }
     {
-        self.end_input(out);
-        self.print_allocation(out);
+        self.end_input();
+        self.print_allocation();
+    }
+
+    // Writes the text that waits, after which none does. Where it fails, the text still waits.
+    pub fn flush<W: Write>(&mut self, clock: &impl Clock, writer: &mut W) -> io::Result<()>
+        ensures ok { OnOk result (Appends (W.contents writer.old) (W.contents writer.new) self.old.text) }
+        ensures empty { OnOk result (self.new ≡ quiet self.old.work) }
+        ensures lasting { IfErr result (λ e. ¬ Passes e) }
+        ensures err { OnErr result (AppendsSome (W.contents writer.old) (W.contents writer.new) self.old.text) }
+        ensures waiting { OnErr result (self.new ≡ self.old) }
+    {
+        write_out(clock, writer, self.waiting.as_slice())?;
+        pass_on(clock, writer)?;
+        self.waiting.clear();
+        Ok(())
     }
 }

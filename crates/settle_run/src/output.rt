@@ -1,10 +1,9 @@
-// Output of the text that waits.
-ghost use Rattle.std.specs.Prelude.{◌≡◌, ◌≤◌, ◌↔◌, [], IsTrue, IfOk, OnOk, IfErr, OnErr, length, take};
+// Writes to a pipe that may be full for now.
+ghost use Rattle.std.specs.Prelude.{◌≡◌, ◌≤◌, ◌↔◌, IsTrue, IfOk, OnOk, IfErr, OnErr, length, take};
 ghost use Rattle.std.specs.IoError.{error_kind};
 ghost use Rattle.std.specs.Io.KnownBytes.{Appends, Keeps};
 ghost use Rattle.settle_run.specs.Streams.{AppendsSome, Passes};
 
-use crate::Waiting;
 use std::io::{ErrorKind, Write};
 use std::time::{Clock, Duration};
 use std::{io, thread};
@@ -52,7 +51,7 @@ fn write_some<W: Write>(clock: &impl Clock, writer: &mut W, bytes: &[u8]) -> io:
 }
 
 // Writes all of the bytes, in as many calls as it takes.
-fn write_out<W: Write>(clock: &impl Clock, writer: &mut W, bytes: &[u8]) -> io::Result<()>
+pub fn write_out<W: Write>(clock: &impl Clock, writer: &mut W, bytes: &[u8]) -> io::Result<()>
     ensures ok { OnOk result (Appends (W.contents writer.old) (W.contents writer.new) bytes.now) }
     ensures lasting { IfErr result (λ e. ¬ Passes e) }
     ensures err { OnErr result (AppendsSome (W.contents writer.old) (W.contents writer.new) bytes.now) }
@@ -70,7 +69,7 @@ fn write_out<W: Write>(clock: &impl Clock, writer: &mut W, bytes: &[u8]) -> io::
 }
 
 // Has the writer write what it holds itself.
-fn pass_on<W: Write>(clock: &impl Clock, writer: &mut W) -> io::Result<()>
+pub fn pass_on<W: Write>(clock: &impl Clock, writer: &mut W) -> io::Result<()>
     ensures lasting { IfErr result (λ e. ¬ Passes e) }
     ensures kept { Keeps (W.contents writer.old) (W.contents writer.new) }
 {
@@ -84,20 +83,4 @@ fn pass_on<W: Write>(clock: &impl Clock, writer: &mut W) -> io::Result<()>
         }
     }
     Err(out_of_turns())
-}
-
-// Writes the text that waits, after which none does. Where it fails, the text still waits.
-// Kept: clock, writer and text are lent one by one: a read waits by the clock too, and what gathers text has no writer, so that a struct
-// of them would be taken apart again in `turn` and `run`.
-pub fn flush<W: Write>(clock: &impl Clock, writer: &mut W, out: &mut Waiting) -> io::Result<()>
-    ensures ok { OnOk result (Appends (W.contents writer.old) (W.contents writer.new) out.old.items) }
-    ensures empty { OnOk result (out.new.items ≡ []) }
-    ensures lasting { IfErr result (λ e. ¬ Passes e) }
-    ensures err { OnErr result (AppendsSome (W.contents writer.old) (W.contents writer.new) out.old.items) }
-    ensures waiting { OnErr result (out.new ≡ out.old) }
-{
-    write_out(clock, writer, out.as_slice())?;
-    pass_on(clock, writer)?;
-    out.clear();
-    Ok(())
 }

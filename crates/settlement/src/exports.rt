@@ -13,9 +13,11 @@ ghost use Rattle.listing.specs.Listed.{list_call, ListGives};
 ghost use Rattle.listing.specs.Settle.{SettleGives};
 
 use allocation::AllocationAnswer;
+use allocation::allocate::allocate;
 use book::{Answer, Setting, Settings};
 use calls::Call;
 use calls::make::{make_call, set};
+use listing::half_hour::settle_list;
 use words::{Reading, Registration};
 
 #[unsafe(no_mangle)]
@@ -103,7 +105,7 @@ pub extern "C" fn cepnhoy_allocate(
 ) -> AllocationAnswer
     ensures { AllocationGives (allocate_call (lent settings rows.now) volumes.old) result rows.now volumes.new }
 {
-    allocation::allocate::allocate(settings, rows, volumes)
+    AllocationAnswer::of(settings, allocate(settings, rows, volumes))
 }
 
 #[unsafe(no_mangle)]
@@ -116,7 +118,8 @@ pub extern "C" fn cepnhoy_totals(
 ) -> Answer
     ensures { TotalsGives (totals_call (lent settings rows.now) direction network totals.old) result rows.now totals.new }
 {
-    totals::totals::totals(settings, rows, direction, network, totals)
+    let outcome = totals::totals::totals(settings, rows, direction, network, totals);
+    Answer::of(settings, outcome)
 }
 
 #[unsafe(no_mangle)]
@@ -141,5 +144,6 @@ pub extern "C" fn cepnhoy_settle_list(
 ) -> AllocationAnswer
     ensures { SettleGives rows.old calls.now numbers.old volumes.old result rows.new numbers.new volumes.new }
 {
-    listing::half_hour::settle_list(rows, calls, numbers, volumes)
+    let made = settle_list(rows, calls, numbers, volumes);
+    AllocationAnswer::of(made.settings, made.outcome)
 }

@@ -19,7 +19,8 @@ use Rattle.book.specs.Book.{Book, used_rows, well_formed}
 use Rattle.book.proofs.WellFormed.{formed-book, formed-settings}
 use Rattle.cells.specs.declared.Source.{Source}
 use Rattle.cells.specs.declared.Source.TheVariants.{Actual, Estimated, Defaulted, Idle}
-use Rattle.cells.specs.Energy.{source_of, energy_from, energy_wh, energised, de_energised, Counts, count_for, counts_of, add_counts}
+use Rattle.cells.specs.declared.Counts.{Counts}
+use Rattle.cells.specs.Energy.{source_of, energy_from, energy_wh, energised, de_energised, count_for, counts_of, add_counts}
 use Rattle.cells.specs.Cells.{units, sum_over, sum_below, is_loss_class, energy_in, in_cell, consumption_class, consumption_cell, loss_cell, cell}
 use Rattle.cells.proofs.Each.{Each}
 use Rattle.cells.proofs.RowBounds.{RowBounds, rows-bounds, class-even, class-direction}

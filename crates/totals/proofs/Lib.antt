@@ -3,6 +3,7 @@
 pub mod SumWhere
 pub mod TotalAt
 pub mod OneMore
+pub mod AddedRows
 -- the totals call
 pub mod Ways
 -- what the totals of a book add up to

@@ -8,6 +8,8 @@ use borrow.Author.Tests.{eq-eqb, ne_eqb, eqb-true, eqb-false}
 use lib.Dec.{eqb}
 use lib.ListN.{length, get_or, length-set, get_or-append}
 use lib.Seq.{get_or-set_same, get_or-set_other, set-append_left}
+use denote.Enum.Bare.{sameb}
+use Rattle.cells.specs.contracts.Source.{the_type}
 use Rattle.words.specs.Registration.{direction_of, status_of, network_of, tariff_of}
 use Rattle.words.proofs.Tests.{by-test, same_test}
 use Rattle.book.specs.Rows.{Row}
@@ -54,8 +56,16 @@ count-word-bound registration = by (eqb (status_of registration) energised)
     by true = omega arith
     by false = omega arith
 
--- how small these numbers are, for the check to cite
-pub ruleset few = (estimate-most, count-word-bound)
+-- what the code's test of the source tells
+pub idle-test : (s : Source) → sameb the_type s Idle ≡ is_idle s
+unfolding is_idle
+idle-test Actual = refl
+idle-test Estimated = refl
+idle-test Defaulted = refl
+idle-test Idle = refl
+
+-- for the check to cite: this, and how small the numbers of the words are
+pub ruleset few = (idle-test, estimate-most, count-word-bound)
 
 -- what a meter gives to the words of its tariff
 

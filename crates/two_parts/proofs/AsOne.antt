@@ -18,6 +18,13 @@ use Rattle.two_parts.proofs.Merged.{length_merged, merged-formed}
 pub both-fit : {first later : ℕ} {words : List ℕ} → PartsReady first later words → 3 * (first + later) ≤ length words
 both-fit {first} {later} {words} ready = room words (first + later) ready.within-capacity
 
+-- the rows up to the capacity end within the slice
+pub end-within : {cap : ℕ} (words : List ℕ) → cap ≡ capacity words → 3 * cap ≤ length words
+end-within {cap} words e = room words cap (omega (arith, e))
+
+-- that both parts, and the rows up to the capacity, end within the slice, for the search for a proof
+pub ruleset ends = (both-fit, end-within)
+
 module _ (first later : ℕ) (words : List ℕ) where
   -- as many rows as the parts have
   pub as-one-count : length (merged (rows_of first words) (later_rows first later words)) ≡ first + later
@@ -42,7 +49,7 @@ module _ (first later : ℕ) (words : List ℕ) where
   as-one-ready ready =
       record {
         within-capacity = rw (as-one-capacity ready) ready.within-capacity;
-        formed = rw (as-one-rows ready) (merged-formed (rows_of first words) (later_rows first later words) ready.first-formed ready.later-formed ready.apart);
+        formed = rw (as-one-rows ready) (merged-formed (rows_of first words) (later_rows first later words) ready.rows.first-formed ready.rows.later-formed ready.rows.apart);
       }
 
 -- no later rows
@@ -62,10 +69,16 @@ none-later n words ready =
     let l = ready.within-capacity in
     record {
       within-capacity = omega arith;
-      first-formed = ready.formed;
-      later-formed = formed-none 0;
-      apart = λ m k. absurd (true≢false (sym k));
+      rows = record { first-formed = ready.formed; later-formed = formed-none 0; apart = λ m k. absurd (true≢false (sym k)) };
     }
 
 pub merged-ready : {first later : ℕ} {words words' : List ℕ} → PartsReady first later words → words' ≡ as_one first later words → PartsReady (first + later) 0 words'
 merged-ready {first} {later} {words} ready e = rw e (none-later (first + later) (as_one first later words) (as-one-ready first later words ready))
+
+-- for the search for a proof
+pub ruleset begun = (none-later)
+
+pub ruleset merging = (merged-ready, as-one-none)
+
+-- for the search for a proof: storing in two parts is storing in the rows that they stand for
+pub ruleset as_lent = (as-one-capacity)

@@ -11,5 +11,7 @@ pub mod KnownAfter
 pub mod LentPart
 pub mod StoredApart
 pub mod LaterStored
-pub mod RegisteredApart
-pub mod RecordedApart
+pub mod Stored
+pub mod ByParts
+pub mod Recorded
+pub mod Registered

@@ -1,15 +1,16 @@
 -- One row of a slice by its number: the last of the first rows, a row that is kept, and a row that is put in the place of another.
-use Prim.Native.Nat.{ℕ, zero, suc, ◌+◌, ◌*◌, ◌≤◌, ◌<◌}
+use Prim.Native.Nat.{ℕ, zero, suc, ◌+◌, ◌*◌, ◌-◌, ◌≤◌, ◌<◌}
 use mathlib.Core.Path.{◌≡◌, refl, sym, ◌∙◌, ap}
 use mathlib.Core.Bool.{true}
 use mathlib.Core.List.{List, [], ◌∷◌, ◌++◌}
 use native.Mathlib.Omega.{arith}
-use lib.ListN.{length, get_or, take, drop, length-append}
+use borrow.Rule.Slice.PartMut.{put_mid}
+use lib.ListN.{length, get_or, take, drop, length-append, length-take, length-drop}
 use lib.Seq.{take-append-le, drop-drop, drop_at}
 use Rattle.book.specs.Rows.{Row, first_row, rows_of, rows_formed, is_known, words_of, written}
 use Rattle.book.proofs.RowsOf.{first-row, length-rows, take-rows, row-of, words-of-rows, length-words}
 use Rattle.book.proofs.Written.{written-append, length-written, rows-of-written}
-use Rattle.two_parts.specs.Merge.{row_of, row_words, words_put, row_put}
+use Rattle.two_parts.specs.Merge.{row_of, row_put}
 use Rattle.two_parts.proofs.MergedBack.{Below, below_last, formed-take, known-there}
 
 -- one row more
@@ -69,6 +70,18 @@ module _ (i : ℕ) (r : Row) (words : List ℕ) where
       ∙ rw (length-rows, drop-drop 3 (3 * i) words, e))
 
 -- put as three words
-pub row-put : (i : ℕ) (r : Row) (words : List ℕ) → 3 * (i + 1) ≤ length words → words_put (3 * i) (row_words r) words ≡ row_put i r words
+three-put : (i : ℕ) (three words : List ℕ) → length three ≡ 3 → 3 * (i + 1) ≤ length words → take (3 * i) words ++ (three ++ drop (3 * i + 3) words) ≡ row_put i (first_row three) words
 unfolding row_put written words_of
-row-put i r words room = rw (written-append, length-rows, words-of-rows i words (omega arith), drop-drop 3 (3 * i) words)
+three-put i (a ∷ b ∷ c ∷ []) words l room = rw (written-append, length-rows, words-of-rows i words (omega arith), drop-drop 3 (3 * i) words)
+three-put i [] words l room = absurd (omega arith)
+three-put i (a ∷ []) words l room = absurd (omega arith)
+three-put i (a ∷ b ∷ []) words l room = absurd (omega arith)
+three-put i (a ∷ b ∷ c ∷ d ∷ more) words l room = absurd (omega arith)
+
+pub row-put : (i : ℕ) (three words : List ℕ) → length three ≡ length (take (3 * i + 3 - 3 * i) (drop (3 * i) words)) → 3 * (i + 1) ≤ length words → put_mid (3 * i) (3 * i + 3 - 3 * i) words three ≡ row_put i (first_row three) words
+row-put i three words l room =
+    let e : 3 * i + 3 - 3 * i ≡ 3 = omega arith in
+    rw (e, drop-drop 3 (3 * i) words) (three-put i three words (l ∙ simp (length-take, length-drop) (omega arith)) room)
+
+-- for the search for a proof
+pub ruleset put = (row-put)

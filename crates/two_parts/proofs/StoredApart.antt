@@ -1,27 +1,26 @@
 -- Storing in rows in two parts: two parts again, and merged they are what storing leaves in the merged rows.
-use Prim.Native.Nat.{ℕ, zero, suc, ◌+◌, ◌-◌, ◌*◌, ◌≤◌}
+use Prim.Native.Nat.{ℕ, ◌+◌, ◌-◌, ◌*◌, ◌≤◌}
 use mathlib.Core.Path.{◌≡◌, refl, sym, ◌∙◌, ap}
-use mathlib.Core.Bool.{true, false}
+use mathlib.Core.Bool.{false}
 use mathlib.Core.List.{List, ◌++◌}
 use native.Mathlib.Omega.{arith}
 use lib.ListN.{length, drop}
 use lib.Seq.{drop-append-add, drop-drop}
-use Rattle.std.specs.Prelude.{Some, Result, Ok, Err}
+use Rattle.std.specs.Prelude.{Some, Result, Ok, Err, IfOk}
 use Rattle.refusals.specs.declared.Refusal.{Refusal}
-use Rattle.refusals.specs.Causes.{accepted}
-use Rattle.refusals.specs.Refusal.{number_of}
-use Rattle.refusals.proofs.Numbers.{not-accepted}
+use Rattle.refusals.specs.Refusal.{number_given}
 use Rattle.book.specs.declared.Stored.{Stored}
-use Rattle.book.specs.Rows.{Row, rows_of, words_of, written, rows_formed, is_known}
-use Rattle.book.specs.Helpers.{held_in, Storing, storing, Tells, Stores}
+use Rattle.book.specs.Rows.{Row, rows_of, words_of, written, is_known}
+use Rattle.book.specs.Helpers.{held_in, Storing, Stores}
 use Rattle.book.proofs.BookFormed.{capacity-same}
 use Rattle.book.proofs.RowsOf.{length-rows, length-words}
 use Rattle.book.proofs.WellFormed.{room}
-use Rattle.book.proofs.Written.{written_same, length-written, rows-of-written}
-use Rattle.book.proofs.Storing.{keeps}
-use Rattle.two_parts.specs.TwoParts.{merged, later_rows, as_one, PartsReady}
-use Rattle.two_parts.specs.Apart.{counted, meters_after}
-use Rattle.two_parts.proofs.AsOne.{as-one-count, as-one-rows, as-one-ready}
+use Rattle.book.proofs.Written.{length-written, rows-of-written}
+use Rattle.two_parts.specs.TwoParts.{merged, later_rows, as_one, RowsApart, PartsReady}
+use Rattle.calls.specs.Helpers.{meters_after}
+use Rattle.two_parts.specs.Apart.{counted}
+use Rattle.two_parts.specs.ByParts.{InFirst}
+use Rattle.two_parts.proofs.AsOne.{as-one-count, as-one-rows}
 use Rattle.two_parts.proofs.Merged.{held-merged-first}
 
 -- the words after the rows written are those that were there
@@ -51,37 +50,42 @@ pub record LeavesApart (m : ℕ) (store : List Row → Storing) (first later : �
   pub stores : Stores m store (first + later) (as_one first later words) (counted (first + later') outcome) (as_one first later' words')
   pub meters : first + later' ≡ meters_after (first + later) (counted (first + later') outcome)
 
-module _ (m first later : ℕ) (words : List ℕ) (ready : PartsReady first later words) (store : List Row → Storing) where
-  -- a refusal leaves the parts
-  pub refused-apart : {refusal : Refusal} → store (whole first later words) ≡ record { number = number_of refusal; rows = whole first later words } → LeavesApart m store first later words later (Err refusal) words
-  refused-apart o =
-      record { ready = ready; stores = keeps (as-one-ready first later words ready) (rw (as-one-rows first later words ready) o); meters = refl }
+-- what the meter m held and holds, as it is told
+abbrev pub ToldOf : ℕ → List Row → List Row → Stored → Type 0
+ToldOf m given made stored = (stored.before ≡ held_in m given) × (Some stored.after ≡ held_in m made)
 
-  -- other words, with as many rows or more in the later part
-  module _ (later' : ℕ) (words' : List ℕ) (more : later ≤ later') (tail : drop (3 * (first + later')) words' ≡ drop (3 * (first + later')) words) where
-    as-one-after : written (whole first later' words') (as_one first later words) ≡ as_one first later' words'
-    unfolding as_one
-    as-one-after =
-        let l : length (whole first later' words') ≡ first + later' = as-one-count first later' words' in
-        by-tail (whole first later' words') (written (whole first later words) words) words'
-        (tail_written (whole first later words) words (3 * length (whole first later' words')) (omega (arith, as-one-count first later words))
-        ∙ ap (λ (k : ℕ). drop (3 * k) words) l
-        ∙ sym tail
-        ∙ ap (λ (k : ℕ). drop (3 * k) words') (sym l))
+-- other words, with as many rows or more in the later part
+module _ (m first later : ℕ) (words : List ℕ) (ready : PartsReady first later words) (store : List Row → Storing) (later' : ℕ) (words' : List ℕ) (more : later ≤ later')
+    (tail : drop (3 * (first + later')) words' ≡ drop (3 * (first + later')) words) where
+  as-one-after : written (whole first later' words') (as_one first later words) ≡ as_one first later' words'
+  unfolding as_one
+  as-one-after =
+      let l : length (whole first later' words') ≡ first + later' = as-one-count first later' words' in
+      by-tail (whole first later' words') (written (whole first later words) words) words'
+      (tail_written (whole first later words) words (3 * length (whole first later' words')) (omega (arith, as-one-count first later words))
+      ∙ ap (λ (k : ℕ). drop (3 * k) words) l
+      ∙ sym tail
+      ∙ ap (λ (k : ℕ). drop (3 * k) words') (sym l))
 
-    pub accepted-apart : {stored : Stored} {rows : List Row} → PartsReady first later' words' → rows ≡ whole first later' words' → store (whole first later words) ≡ record { number = accepted; rows = rows }
-        → stored.before ≡ held_in m (whole first later words) → Some stored.after ≡ held_in m rows
-        → LeavesApart m store first later words later' (Ok stored) words'
-    accepted-apart ready' e o b a =
-        record {
-          ready = ready';
-          stores = record {
-            number = rw (as-one-rows first later words ready, o);
-            told = rw (as-one-rows first later words ready, o) (record { meters = sym (ap length e ∙ as-one-count first later' words'); before = b; after = a });
-            slice = rw (as-one-rows first later words ready, o, e) (sym as-one-after);
-          };
-          meters = refl;
-        }
+  pub leaves-apart : (outcome : Result Stored Refusal) → PartsReady first later' words' → number_given outcome ≡ (store (whole first later words)).number → (store (whole first later words)).rows ≡ whole first later' words'
+      → IfOk outcome (ToldOf m (whole first later words) (store (whole first later words)).rows) → first + later' ≡ meters_after (first + later) (counted (first + later') outcome)
+      → LeavesApart m store first later words later' outcome words'
+  leaves-apart (Ok stored) ready' n e t meters =
+      record {
+        ready = ready';
+        stores = record {
+          number = rw (as-one-rows first later words ready) n;
+          told = rw (as-one-rows first later words ready) (record { meters = sym (ap length e ∙ as-one-count first later' words'); before = t.0; after = t.1 });
+          slice = rw (as-one-rows first later words ready, e) (sym as-one-after);
+        };
+        meters = meters;
+      }
+  leaves-apart (Err refusal) ready' n e t meters =
+      record {
+        ready = ready';
+        stores = record { number = rw (as-one-rows first later words ready) n; told = tt; slice = rw (as-one-rows first later words ready, e) (sym as-one-after) };
+        meters = meters;
+      }
 
 -- other rows in the first part, as many as before: they are written where those stood
 module _ (first later : ℕ) (words : List ℕ) (ready : PartsReady first later words) (rows : List Row) (same : length rows ≡ first) where
@@ -95,80 +99,38 @@ module _ (first later : ℕ) (words : List ℕ) (ready : PartsReady first later 
   unfolding later_rows
   later_rows_lem = ap (rows_of later) (first_tail (3 * first) (omega arith))
 
-  first-ready : rows_formed 0 rows ≡ true → ((m : ℕ) → is_known m (later_rows first later words) ≡ true → is_known m rows ≡ false) → PartsReady first later (written rows words)
-  first-ready formed apart =
+  first-ready : RowsApart rows (later_rows first later words) → PartsReady first later (written rows words)
+  first-ready apart =
       let l = length-written rows words (omega (arith, room words (first + later) ready.within-capacity)) in
-      record {
-        within-capacity = rw (capacity-same (written rows words) words l) ready.within-capacity;
-        first-formed = rw first_rows formed;
-        later-formed = rw later_rows_lem ready.later-formed;
-        apart = rw (first_rows, later_rows_lem) apart;
-      }
+      record { within-capacity = rw (capacity-same (written rows words) words l) ready.within-capacity; rows = rw (first_rows, later_rows_lem) apart }
 
--- storing in the first part, by a cause and a change that are the same there as in the whole
-pub record ChangesFirst (first : ℕ) (rows later : List Row) : Type 0 where
-  pub as_many : length rows ≡ first
-  pub formed : rows_formed 0 rows ≡ true
-  pub apart : (q : ℕ) → is_known q later ≡ true → is_known q rows ≡ false
-
-module _ (m first later : ℕ) (words : List ℕ) (ready : PartsReady first later words) (cause : List Row → ℕ) (change : List Row → List Row)
-    (same : cause (whole first later words) ≡ cause (rows_of first words))
-    (merges : change (whole first later words) ≡ merged (change (rows_of first words)) (later_rows first later words))
-    (not-later : is_known m (later_rows first later words) ≡ false)
-    (changes : cause (rows_of first words) ≡ accepted → ChangesFirst first (change (rows_of first words)) (later_rows first later words)) where
-  abbrev A : List Row
-  A = rows_of first words
-
+-- storing that leaves in the first part what it leaves in the whole
+module _ (m first later : ℕ) (words : List ℕ) (ready : PartsReady first later words) (store : List Row → Storing)
+    (x : InFirst (store (whole first later words)) (store (rows_of first words)) (rows_of first words) (later_rows first later words))
+    (not-later : is_known m (later_rows first later words) ≡ false) where
   abbrev B : List Row
   B = later_rows first later words
 
-  abbrev store_by : List Row → Storing
-  store_by rows = storing (cause rows) (change rows) rows
+  abbrev rows : List Row
+  rows = (store (rows_of first words)).rows
 
-  pub first-stored : {outcome : Result Stored Refusal} {words_after : List ℕ} → Stores m store_by first words outcome words_after → LeavesApart m store_by first later words later outcome words_after
-  unfolding storing
-  first-stored {outcome} {words_after} x = by-outcome outcome x
-    where
-      when-refused : (k : ℕ) → cause A ≡ k → (refusal : Refusal) → Stores m store_by first words (Err refusal) words_after → LeavesApart m store_by first later words later (Err refusal) words_after
-      when-refused zero c refusal x = absurd (not-accepted refusal (rw c at x.number))
-      when-refused (suc k) c refusal x =
-          let number : number_of refusal ≡ suc k = rw c at x.number in
-          let s : words_after ≡ written A words = rw c at x.slice in
-          rw (s, written_same first words (omega (arith, room words (first + later) ready.within-capacity)))
-          (refused-apart m first later words ready store_by (rw (same, c, number)))
+  count : length rows ≡ first
+  count = x.as_many ∙ length-rows first words
 
-      when-accepted : (k : ℕ) → cause A ≡ k → (stored : Stored) → Stores m store_by first words (Ok stored) words_after → LeavesApart m store_by first later words later (Ok stored) words_after
-      when-accepted (suc k) c stored x = let number : accepted ≡ suc k = rw c at x.number in absurd (omega arith)
-      when-accepted zero c stored x =
-          let t : Tells m A (change A) stored = rw c at x.told in
-          let s : words_after ≡ written (change A) words = rw c at x.slice in
-          let h = changes c in
-          rw s
-          (accepted-apart m first later words ready store_by later (written (change A) words) (omega arith)
-          (first_tail first later words ready (change A) h.as_many (3 * (first + later)) (omega arith))
-          (first-ready first later words ready (change A) h.as_many h.formed h.apart)
-          (merges ∙ rw (first_rows first later words ready (change A) h.as_many, later_rows_lem first later words ready (change A) h.as_many))
-          (rw (same, c))
-          (t.before ∙ sym (held-merged-first m A B not-later))
-          (t.after ∙ sym (ap (held_in m) merges ∙ held-merged-first m (change A) B not-later)))
+  written-there : (outcome : Result Stored Refusal) → number_given outcome ≡ (store (rows_of first words)).number → IfOk outcome (ToldOf m (whole first later words) (store (whole first later words)).rows)
+      → first + later ≡ meters_after (first + later) (counted (first + later) outcome) → LeavesApart m store first later words later outcome (written rows words)
+  written-there outcome n =
+      leaves-apart m first later words ready store later (written rows words) (omega arith)
+      (first_tail first later words ready rows count (3 * (first + later)) (omega arith))
+      outcome
+      (first-ready first later words ready rows count x.parts)
+      (n ∙ sym x.number)
+      (x.rows ∙ rw (first_rows first later words ready rows count, later_rows_lem first later words ready rows count))
 
-      by-outcome : (o : Result Stored Refusal) → Stores m store_by first words o words_after → LeavesApart m store_by first later words later o words_after
-      by-outcome (Ok stored) x = when-accepted (cause A) refl stored x
-      by-outcome (Err refusal) x = when-refused (cause A) refl refusal x
-
--- how many rows there are after storing in a part
-pub after-most : (m n : ℕ) (words : List ℕ) (cause : List Row → ℕ) (change : List Row → List Row) (most : ℕ) → n ≤ most → length (change (rows_of n words)) ≤ most → {outcome : Result Stored Refusal} {words' : List ℕ}
-    → Stores m (λ rows. storing (cause rows) (change rows) rows) n words outcome words' → meters_after n outcome ≤ most
-unfolding storing
-after-most m n words cause change most given made {outcome} {words'} x = by-outcome outcome x
-  where
-    rows : List Row
-    rows = rows_of n words
-
-    by-cause : (k : ℕ) → length (storing k (change rows) rows).rows ≤ most
-    by-cause zero = made
-    by-cause (suc k) = rw length-rows given
-
-    by-outcome : (o : Result Stored Refusal) → Stores m (λ rows. storing (cause rows) (change rows) rows) n words o words' → meters_after n o ≤ most
-    by-outcome (Ok stored) x = rw x.told.meters (by-cause (cause rows))
-    by-outcome (Err refusal) x = given
+  pub first-stored : {outcome : Result Stored Refusal} {words_after : List ℕ} → Stores m store first words outcome words_after → LeavesApart m store first later words later outcome words_after
+  first-stored {outcome = Err refusal} s = rw s.slice (written-there (Err refusal) s.number tt refl)
+  first-stored {outcome = Ok stored} s =
+      rw s.slice
+      (written-there (Ok stored) s.number
+      (s.told.before ∙ sym (held-merged-first m (rows_of first words) B not-later), s.told.after ∙ sym (ap (held_in m) x.rows ∙ held-merged-first m rows B not-later))
+      refl)

@@ -2,3 +2,4 @@
 pub mod TwoParts
 pub mod Merge
 pub mod Apart
+pub mod ByParts

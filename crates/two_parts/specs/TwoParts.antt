@@ -25,9 +25,13 @@ as_one first later words = written (merged (rows_of first words) (later_rows fir
 abbrev pub later_most : ℕ
 later_most = 512
 
--- two parts in which a meter may be looked for, and stored: both rise, and no meter stands in both
+-- the rows of two parts: both rise, and no meter stands in both
+pub record RowsApart (first later : List Row) : Type 0 where
+  pub first-formed : rows_formed 0 first ≡ true
+  pub later-formed : rows_formed 0 later ≡ true
+  pub apart : (m : ℕ) → is_known m later ≡ true → is_known m first ≡ false
+
+-- two parts in which a meter may be looked for, and stored
 pub record PartsReady (first later : ℕ) (words : List ℕ) : Type 0 where
   pub within-capacity : first + later ≤ capacity words
-  pub first-formed : rows_formed 0 (rows_of first words) ≡ true
-  pub later-formed : rows_formed 0 (later_rows first later words) ≡ true
-  pub apart : (m : ℕ) → is_known m (later_rows first later words) ≡ true → is_known m (rows_of first words) ≡ false
+  pub rows : RowsApart (rows_of first words) (later_rows first later words)

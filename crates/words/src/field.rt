@@ -61,6 +61,7 @@ impl Field {
     }
 
     // The word w, which has nothing from this field on, with x put there.
+    // Kept: no `From`, since it takes a word and the number of one field to put in it.
     pub fn put(self, w: u64, x: u64) -> u64
         requires below { w < 2 ^ self.at }
         requires room { x * 2 ^ self.at < 2 ^ 64 }

@@ -52,7 +52,7 @@ pub struct Reading {
 pub fn is_mpan(m: u64) -> bool
     ensures { result ≡ is_mpan m }
 {
-    (MPAN_MIN <= m) & (m <= MPAN_MAX)
+    (MPAN_MIN..=MPAN_MAX).contains(&m)
 }
 
 // The unit that a meter's energy goes to: the additional one if there is one, else the base one.
@@ -115,8 +115,7 @@ impl Registration {
             & (((self.flag == 0) & (self.additional == 0))
                 | ((self.flag == 1) & (self.additional <= Self::UNIT_MAX)))
             & (self.category <= Self::CATEGORY_MAX)
-            & (Self::LLF_MIN <= self.llf)
-            & (self.llf <= Self::LLF_MAX)
+            & (Self::LLF_MIN..=Self::LLF_MAX).contains(&self.llf)
             & (self.network <= Self::NETWORK_MAX)
             & (self.tariff <= Self::TARIFF_MAX)
     }
@@ -183,7 +182,7 @@ pub fn is_registration(w: u64) -> bool
         return false;
     }
     let llf = Field::LLF.of(w);
-    (Registration::LLF_MIN <= llf) & (llf <= Registration::LLF_MAX)
+    (Registration::LLF_MIN..=Registration::LLF_MAX).contains(&llf)
 }
 
 // The actual codes, a bit for each: those up to AAE3, E2 and E6.
@@ -230,8 +229,7 @@ impl Reading {
     pub fn in_range(self) -> bool
         ensures { result ≡ reading_in_range self }
     {
-        (Self::ISSUE_MIN <= self.issue)
-            & (self.issue <= Self::ISSUE_MAX)
+        (Self::ISSUE_MIN..=Self::ISSUE_MAX).contains(&self.issue)
             & (self.quality <= Self::QUALITY_MAX)
             & (self.consumption <= Self::CONSUMPTION_MAX)
     }
@@ -242,7 +240,7 @@ impl Reading {
         ensures { result ≡ quality_allowed self }
     {
         (self.quality != Self::QUALITY_E7)
-            & (!((Self::QUALITY_ZE <= self.quality) & (self.quality <= Self::QUALITY_ZE3))
+            & (!(Self::QUALITY_ZE..=Self::QUALITY_ZE3).contains(&self.quality)
                 | (self.consumption == 0))
     }
 

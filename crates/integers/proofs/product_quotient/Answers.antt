@@ -61,7 +61,7 @@ read : {m : ℕ} {a w : ℤ} → ShareArguments (pos m) a w → SFits w64 a → 
 read args f g = rw (to_z-of_z w64 _ f, to_z-of_z w64 _ g) args
 
 pub loop-i-init : goal.loop-i-init
-loop-i-init c = (c.digits-i.ensures.0, no_digit (read c.requires c.ranges.a c.ranges.w) c.digits-i.result c.digits-i.ensures.1)
+loop-i-init c = (c.digit_count-i.ensures.0, no_digit (read c.requires c.ranges.a c.ranges.w) c.digit_count-i.result c.digit_count-i.ensures.1)
 
 pub next_digit-done-requires : goal.next_digit-done-requires
 next_digit-done-requires c = digit-arguments (read c.requires c.ranges.a c.ranges.w) c.loop-i.i c.loop-i.invariant.1

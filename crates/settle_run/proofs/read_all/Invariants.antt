@@ -6,6 +6,6 @@ use Rattle.settle_run.proofs.read_all.Given as goal
 abbrev pub invariant-loop : goal.invariant-loop
 invariant-loop g l =
     record {
-      read : Read l.initial.progress l.progress l.out;
-      streams : Underway l.initial.progress l.initial.out l.progress l.out (g.R.Read.remaining l.initial.reader) (g.R.Read.remaining l.reader) (g.W.Write.contents l.initial.writer) (g.W.Write.contents l.writer);
+      read : Read l.initial.progress l.progress;
+      streams : Underway l.initial.progress l.progress (g.R.Read.remaining l.initial.reader) (g.R.Read.remaining l.reader) (g.W.Write.contents l.initial.writer) (g.W.Write.contents l.writer);
     }

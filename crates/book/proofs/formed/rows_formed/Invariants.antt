@@ -3,4 +3,4 @@ use Rattle.book.proofs.RowsFormed.{RowsLeft}
 use Rattle.book.proofs.formed.rows_formed.Given as goal
 
 abbrev pub invariant-loop-mpan : goal.invariant-loop-mpan
-invariant-loop-mpan l = RowsLeft l.rows l.n l.before l.mpan-index
+invariant-loop-mpan l = RowsLeft l.rows l.before l.mpan-index

@@ -2,8 +2,8 @@
 use mathlib.Core.List.{map}
 use lib.ListN.{take}
 use Rattle.book.specs.Rows.{first_row}
-use Rattle.cells.specs.Helpers.{Gathered}
+use Rattle.cells.proofs.Gathering.{SoFar}
 use Rattle.cells.proofs.cells.gather.Given as goal
 
 abbrev pub invariant-loop-registration : goal.invariant-loop-registration
-invariant-loop-registration l = Gathered l.shapes (map first_row (take l.registration-index l.rows)) l.cells l.counts l.lacks
+invariant-loop-registration l = SoFar l.shapes (map first_row (take l.registration-index l.rows)) l.cells l.counts l.lacks

@@ -1,108 +1,84 @@
--- `correct_units` meets its contract: causes 10 and 11 are tested in order on U and W, and the volumes are apportioned. Assumes nothing.
-use Prim.Native.Nat.{ℕ, ◌*◌, ◌≤◌}
-use mathlib.Core.Path.{◌≡◌, refl, sym, ◌∙◌, ap}
-use mathlib.Core.Bool.{Bool, false}
-use mathlib.Core.List.{List, map, ◌++◌}
-use native.Mathlib.Nat.{mul-le-mul_right}
+-- `correct_units` meets its contract: a refusal is that of U and W, and else the volumes are apportioned. Assumes nothing.
+use Prim.Native.Nat.{ℕ}
+use mathlib.Core.Path.{◌≡◌, ◌∙◌, sym, ap, ap₂}
+use mathlib.Core.List.{List, map-id, ◌++◌}
 use native.Mathlib.Omega.{arith}
-use borrow.Author.Tests.{ltb-false}
-use lib.IntN.{ℤ, pos, nat_abs}
+use lib.IntN.{ℤ, pos, nat_abs, ◌-ℤ◌}
 use lib.ListN.{take, drop}
-use lib.Seq.{length-take-le}
-use lib.Signed.{lt_z}
 use mir.Syntax.{w64}
-use mir.Val.{SFits, of_z, to_z}
+use mir.Val.{SFits, to_z, of_z}
 use mir.ValLaws.{to_z-of_z}
+use Rattle.std.specs.Slice.Iter.{iter_rest}
+use Rattle.std.proofs.lemmas.Result.{err_from_is_err_and}
 use Rattle.integers.specs.Sum.{sum}
-use Rattle.integers.proofs.Fit.{fit}
-use Rattle.integers.proofs.Order.{lt-false, lt-of-next}
-use Rattle.integers.proofs.Size.{size-minus}
+use Rattle.cells.specs.Cells.{units}
 use Rattle.correction.specs.declared.UnitSums.{UnitSums}
 use Rattle.correction.specs.declared.Corrected.{Corrected}
-use Rattle.correction.specs.Correction.{net_in, weighted_in, unallocated_of, weighted_total, exceeds_tolerance}
+use Rattle.correction.specs.Correction.{sums_cause}
+use Rattle.correction.specs.Volumes.{lacking_wh, rounded_volumes, with_volumes}
 use Rattle.correction.specs.Outcome.{corrected_of}
-use Rattle.correction.specs.Helpers.{no_sums, ToleranceArguments, ApportionArguments, CorrectArguments}
-use Rattle.correction.specs.Volumes.{volumes_of, with_volumes}
-use Rattle.correction.proofs.Sizes.{size-sum, size-figure}
-use Rattle.correction.proofs.Outcome.{way-below, way-exceeds, way-accepted}
+use Rattle.correction.specs.Helpers.{sizes}
+use Rattle.correction.proofs.ChainSums.{over-fits, over-sum}
+use Rattle.correction.proofs.Apportion.{SharedBy, share-arguments, floors-sizes, lack-is, lack-few, hand-arguments, volumes-given}
+use Rattle.correction.proofs.Outcome.{way-refused, way-accepted}
 use Rattle.correction.proofs.correct.correct_units.Goals as goal
+use Rattle.correction.proofs.correct.correct_units.Goals.{After-iter, After-sum-shared, After-unsigned_abs-lack}
 
--- what each step needs, from the bounds on the arguments
-module _ {take_wh : ℤ} {tolerance : ℕ} {sums : List UnitSums} {slice : List ℤ} (given : CorrectArguments take_wh tolerance sums slice) where
-  u-bound : nat_abs (unallocated_of take_wh sums) ≤ 1400000000000
-  unfolding unallocated_of
-  u-bound =
-      let n = map net_in sums in
-      omega (arith, size-minus take_wh (sum n), size-sum n, given.sums-within.take_bound, given.sums-within.nets-bound)
+-- U and W, of the Take as the code has it
+corrected-is : {x : Corrected} (take_wh : ℤ) (sums : List UnitSums) → SFits w64 take_wh → x ≡ corrected_of (to_z w64 (of_z w64 take_wh)) sums → x ≡ corrected_of take_wh sums
+corrected-is take_wh sums f e = rw (to_z-of_z w64 take_wh f) at e
 
-  w-bound : nat_abs (weighted_total sums) ≤ 1400000000000000
-  unfolding weighted_total
-  w-bound = omega (arith, size-sum (map weighted_in sums), given.sums-within.weighted-bound)
+pub returns-in_err-within : goal.returns-in_err-within
+unfolding sums_cause
+returns-in_err-within c =
+    let p = err_from_is_err_and c.from_residual.result c.from_residual.ensures.1 in
+    let is = corrected-is c.args.take_wh c.args.sums.now c.ranges.take_wh c.of-corrected.ensures.is in
+    rw (p.1, p.2) (way-refused c.args.take_wh c.args.tolerance c.args.sums.now c.args.volumes.now _ (rw is at c.in_err-within.ensures.number))
 
-  -- U and W as the code has them
-  module _ {x : Corrected} (take-fits : SFits w64 take_wh) (is : x ≡ corrected_of (to_z w64 (of_z w64 take_wh)) sums) where
-    corrected-is : x ≡ corrected_of take_wh sums
-    corrected-is = is ∙ ap (λ (z : ℤ). corrected_of z sums) (to_z-of_z w64 take_wh take-fits)
+pub share_down-fractions-requires : goal.share_down-fractions-requires
+share_down-fractions-requires c = share-arguments c.requires
 
-    below-is : {t : Bool} → lt_z (to_z w64 (of_z w64 x.weighted)) (pos 1) ≡ t → lt_z (weighted_total sums) (pos 1) ≡ t
-    below-is h = rw (corrected-is, to_z-of_z w64 (weighted_total sums) (fit _ 1400000000000000 w-bound (omega arith))) at h
+-- U and W, and what the shares worked from them are
+shared : (c : After-iter) → SharedBy c.args.take_wh c.in_ok-within.within.corrected c.args.sums.now (take units c.args.volumes.now) c.share_down-fractions.new.floors c.share_down-fractions.result.times_w
+shared c =
+    record {
+      is = c.in_ok-within.ensures.same ∙ corrected-is c.args.take_wh c.args.sums.now c.ranges.take_wh c.of-corrected.ensures.is;
+      within = c.in_ok-within.within.within;
+      args = share-arguments c.requires;
+      sums-long = c.told-sums;
+      shared = c.share_down-fractions.ensures;
+    }
 
-    tolerance-arguments : ToleranceArguments tolerance x
-    tolerance-arguments = rw corrected-is (record { g-bound = given.tolerance-bound; sizes-bound = record { u-bound = u-bound; w-bound = w-bound } })
+pub sum-shared-requires-clause-fits : goal.sum-shared-requires-clause-fits
+sum-shared-requires-clause-fits c = λ p t e.
+    let floors = c.share_down-fractions.new.floors in
+    over-fits (λ (z : ℤ). z) floors p (ap iter_rest e ∙ c.iter.ensures.rest) (omega (arith, ap sizes (map-id floors), floors-sizes (shared c)))
 
-    exceeds-is : {t : Bool} → exceeds_tolerance tolerance x.unallocated x.weighted ≡ t → exceeds_tolerance tolerance (unallocated_of take_wh sums) (weighted_total sums) ≡ t
-    exceeds-is h = rw corrected-is at h
+-- the Take less the shares rounded down, as the code subtracts: the Wh that lack
+difference : (c : After-sum-shared) → to_z w64 (of_z w64 c.args.take_wh) -ℤ to_z w64 (of_z w64 c.sum-shared.result) ≡ pos (lacking_wh c.args.take_wh c.share_down-fractions.new.floors)
+difference c =
+    let floors = c.share_down-fractions.new.floors in
+    let s = c.sum-shared.ensures.runs tt in
+    let is = s.3 ∙ over-sum (λ (z : ℤ). z) floors s.0 (ap iter_rest s.1 ∙ c.iter.ensures.rest) s.2 ∙ ap sum (map-id floors) in
+    ap₂ ◌-ℤ◌ (to_z-of_z w64 _ c.ranges.take_wh) (to_z-of_z w64 _ (record { sfits = c.sum-shared.type_inv }) ∙ is) ∙ lack-is (shared c.before)
 
-    apportion-arguments : lt_z (weighted_total sums) (pos 1) ≡ false → exceeds_tolerance tolerance (unallocated_of take_wh sums) (weighted_total sums) ≡ false
-        → ApportionArguments take_wh x sums (take 32 slice)
-    unfolding exceeds_tolerance
-    apportion-arguments above within =
-        let w = weighted_total sums in
-        let kept : nat_abs (unallocated_of take_wh sums) * 1000000 ≤ tolerance * nat_abs w = ltb-false _ _ within in
-        let most : tolerance * nat_abs w ≤ 1000 * nat_abs w = mul-le-mul_right (nat_abs w) given.tolerance-bound in
-        rw corrected-is (
-        record {
-          shares = record {
-            within = record {
-              sizes-bound = record { u-bound = u-bound; w-bound = w-bound };
-              w-positive = lt-of-next (lt-false w (pos 1) above);
-              within-tolerance = omega arith;
-            };
-            floors-long = length-take-le 32 slice given.volumes-long;
-            bound = λ k.
-                record {
-                  net-bound = omega (arith, size-figure net_in sums k no_sums refl, given.sums-within.nets-bound);
-                  weighted-bound = omega (arith, size-figure weighted_in sums k no_sums refl, given.sums-within.weighted-bound);
-                };
-          };
-          is = refl;
-        }
-        )
+pub overflow_sub-take_wh : goal.overflow_sub-take_wh
+overflow_sub-take_wh c = rw (difference c) (record { sfits = omega (arith, lack-few (shared c.before)) })
 
-pub returns-then-corrected-lt1 : goal.returns-then-corrected-lt1
-returns-then-corrected-lt1 c = way-below _ _ _ _ (below-is c.requires c.ranges.take_wh c.of-corrected.ensures c.if-corrected-lt1.true)
+lack-given : (c : After-unsigned_abs-lack) → c.unsigned_abs-lack.result ≡ lacking_wh c.args.take_wh c.share_down-fractions.new.floors
+lack-given c = c.unsigned_abs-lack.ensures.value ∙ ap nat_abs (to_z-of_z w64 _ (overflow_sub-take_wh c.before) ∙ difference c.before)
 
-pub exceeds-requires : goal.exceeds-requires
-exceeds-requires c = tolerance-arguments c.requires c.ranges.take_wh c.of-corrected.ensures
-
-pub returns-then-exceeds : goal.returns-then-exceeds
-returns-then-exceeds c =
-    way-exceeds _ _ _ _ (below-is c.requires c.ranges.take_wh c.of-corrected.ensures c.if-corrected-lt1.false)
-    (exceeds-is c.requires c.ranges.take_wh c.of-corrected.ensures (sym c.exceeds.ensures ∙ c.if-exceeds.true))
-
-pub apportion-requires : goal.apportion-requires
-apportion-requires c =
-    rw (to_z-of_z w64 c.args.take_wh c.ranges.take_wh) (
-    apportion-arguments c.requires c.ranges.take_wh c.of-corrected.ensures
-    (below-is c.requires c.ranges.take_wh c.of-corrected.ensures c.if-corrected-lt1.false)
-    (exceeds-is c.requires c.ranges.take_wh c.of-corrected.ensures (sym c.exceeds.ensures ∙ c.if-exceeds.false))
-    )
+pub hand_out-requires : goal.hand_out-requires
+hand_out-requires c =
+    let d = (goal.at.hand_out-requires c).After-unsigned_abs-lack in
+    rw (lack-given d) (hand-arguments (shared d.before.before))
 
 pub returns : goal.returns
-unfolding with_volumes
+unfolding sums_cause with_volumes
 returns c =
-    way-accepted _ _ _ _ (below-is c.requires c.ranges.take_wh c.of-corrected.ensures c.if-corrected-lt1.false)
-    (exceeds-is c.requires c.ranges.take_wh c.of-corrected.ensures (sym c.exceeds.ensures ∙ c.if-exceeds.false))
-    (corrected-is c.requires c.ranges.take_wh c.of-corrected.ensures)
-    (ap (λ (v : List ℤ). v ++ drop 32 c.args.volumes.now)
-    (c.apportion.ensures ∙ ap (λ (z : ℤ). volumes_of z c.args.sums.now) (to_z-of_z w64 c.args.take_wh c.ranges.take_wh)))
+    let d = (goal.at.returns c).After-unsigned_abs-lack in
+    let f = c.share_down-fractions.result.times_w in
+    let is = corrected-is c.args.take_wh c.args.sums.now c.ranges.take_wh c.of-corrected.ensures.is in
+    way-accepted c.args.take_wh c.args.tolerance c.args.sums.now c.args.volumes.now (sym (rw is at c.in_ok-within.ensures.number)) is
+    (ap (λ (v : List ℤ). v ++ drop units c.args.volumes.now)
+    (c.hand_out.ensures ∙ ap (λ (k : ℕ). rounded_volumes k f 0 c.share_down-fractions.new.floors f) (lack-given d) ∙ volumes-given (shared d.before.before)))

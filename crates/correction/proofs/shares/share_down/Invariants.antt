@@ -13,4 +13,4 @@ pub record Done (u w : ℤ) (sums : List UnitSums) (floors : List ℤ) (fraction
   pub fractions-done : Filled (share_fraction u w) sums fractions i
 
 abbrev pub invariant-loop-unit : goal.invariant-loop-unit
-invariant-loop-unit l = Done l.corrected.unallocated l.corrected.weighted l.sums l.floors l.fractions l.unit
+invariant-loop-unit l = Done l.within.corrected.unallocated l.within.corrected.weighted l.sums l.floors l.times_w l.unit

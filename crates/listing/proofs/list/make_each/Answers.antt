@@ -14,15 +14,9 @@ new-parts-requires c = rows-ready _ _ c.requires.formed
 pub loop-i-init : goal.loop-i-init
 loop-i-init c = let parts = c.new-parts.ensures in none-made-in-parts _ _ _ _ _ c.requires.formed parts.rows parts.first parts.later
 
-pub make_in_parts-outcome-requires-clause-formed : goal.make_in_parts-outcome-requires-clause-formed
-make_in_parts-outcome-requires-clause-formed c = c.loop-i.invariant.made-so.formed
-
-pub make_in_parts-outcome-requires-clause-counted : goal.make_in_parts-outcome-requires-clause-counted
-make_in_parts-outcome-requires-clause-counted c = c.loop-i.invariant.counted
-
 pub loop-i-preserved : goal.loop-i-preserved
 loop-i-preserved c =
-    let made = c.make_in_parts-outcome.ensures in
+    let made = c.make-outcome.ensures in
     record {
       same_slice = made.same_slice ∙ c.loop-i.invariant.same_slice;
       counted = made.counted;

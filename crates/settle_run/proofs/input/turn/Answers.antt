@@ -1,8 +1,7 @@
 -- `turn` takes what its attempt to read gave, and keeps what holds between two reads: a read of 1,024 bytes prints at most 51,200.
-use Rattle.std.proofs.Common.{◌≤◌, [], length, take, refl, arith}
+use Rattle.std.proofs.Common.{◌≤◌, [], length, take, arith}
 use Rattle.std.proofs.KnownBytes.{Consumes-nil, Consumes-kept}
-use Rattle.settle_run.specs.Program.{take_attempt}
-use Rattle.settle_run.proofs.Attempts.{nothing_read, bytes_read}
+use Rattle.settle_run.specs.Program.{take_attempt, gave, again}
 use Rattle.settle_run.proofs.Streams.{gave-none}
 use Rattle.settle_run.proofs.input.turn.Goals as goal
 
@@ -12,8 +11,10 @@ returns-in-Ok-clause-streams g c =
     let n = c.in-Ok.n in
     let chunk = c.read.new.buf in
     let some : n ≤ length chunk = omega (arith, c.in-Ok.ensures.bound) in
+    let few : length (take n chunk) ≤ 1024 = omega (arith, c.in-Ok.ensures.bound) in
+    let taken = rw c.in_ok-flush.ensures.empty at c.take_read.ensures in
     record {
-      turned = bytes_read (take n chunk) (omega (arith, c.in-Ok.ensures.bound)) c.in_ok-flush.ensures.empty c.take_read.ensures;
+      turned = record { attempt = gave (take n chunk); made = taken.made; room = omega (arith, few, taken.short) };
       went_on = λ e. cc;
       consumed = c.in-Ok.ensures.bytes.0;
       at_end = λ e. c.in-Ok.ensures.bytes.1 (gave-none n chunk some e) (omega arith);
@@ -23,8 +24,9 @@ returns-in-Ok-clause-streams g c =
 pub returns-in-Err-clause-streams : goal.returns-in-Err-clause-streams
 unfolding take_attempt
 returns-in-Err-clause-streams g c =
+    let written = c.in_ok-flush.ensures.empty in
     record {
-      turned = nothing_read refl refl c.in_ok-flush.ensures.empty;
+      turned = record { attempt = again; made = written; room = rw written (omega arith) };
       went_on = λ e. cc;
       consumed = Consumes-kept _ _ _ [] (Consumes-nil _) c.in-Err.ensures.bytes;
       at_end = λ e. absurd cc;

@@ -5,4 +5,4 @@ use Rattle.settle_run.specs.Helpers.{Took}
 use Rattle.settle_run.proofs.lines.Progress.feed.Given as goal
 
 abbrev pub invariant-loop-byte : goal.invariant-loop-byte
-invariant-loop-byte l = Took (take_bytes l.initial.self (take l.byte-index l.bytes)) (50 * l.byte-index) l.initial.out l.self l.out
+invariant-loop-byte l = Took (take_bytes l.initial.self.work (take l.byte-index l.bytes)) (50 * l.byte-index) l.initial.self l.self
