@@ -1,17 +1,17 @@
 -- The later rows lent as a slice of their own, up to the capacity of the whole, and put back.
 use Prim.Native.Nat.{ℕ, zero, suc, ◌+◌, ◌*◌, ◌-◌, ◌≤◌}
 use mathlib.Core.Path.{◌≡◌, refl, sym, ◌∙◌, ap}
-use mathlib.Core.List.{List, [], ◌∷◌, ◌++◌, map}
+use mathlib.Core.List.{List, [], ◌∷◌, ◌++◌}
 use native.Mathlib.Omega.{arith}
 use borrow.Rule.Slice.PartMut.{mid_of, put_mid, post_of, same_len_mid}
-use lib.ListN.{length, take, drop, length-map, length-take, length-drop, take-append-drop}
+use lib.ListN.{length, take, drop, length-take, length-drop, take-append-drop}
 use lib.Seq.{length-take-le, drop-drop, drop_at, drop-append-le}
-use Rattle.book.specs.Rows.{Row, capacity, first_row, rows_of}
+use Rattle.book.specs.Rows.{Row, capacity, rows_of}
 use Rattle.book.specs.Helpers.{row}
-use Rattle.book.proofs.RowsOf.{length-rows}
 use Rattle.book.proofs.WellFormed.{room}
 use Rattle.book.proofs.Parts.{rest_part}
-use Rattle.two_parts.specs.TwoParts.{later_rows}
+use Rattle.two_parts.specs.TwoParts.{later_rows, PartsReady}
+use Rattle.two_parts.proofs.AsOne.{both-fit}
 
 -- the first rows of a slice are those of a longer one
 pub rows-longer : (n : ℕ) (xs ys : List ℕ) → 3 * n ≤ length xs → rows_of n (xs ++ ys) ≡ rows_of n xs
@@ -81,22 +81,13 @@ module _ (first : ℕ) (words : List ℕ) (within : first ≤ capacity words) wh
           ∙ ap (drop (3 * later)) (take-append-drop (3 * capacity words - 3 * first) (drop (3 * first) words))
           ∙ drop-drop (3 * later) (3 * first) words)
 
--- as many arrays of three words as rows
-as-many : (n : ℕ) (words : List ℕ) (rows : List (List ℕ)) → map first_row rows ≡ rows_of n words → length rows ≡ n
-as-many n words rows e = sym (length-map rows first_row) ∙ ap length e ∙ length-rows n words
-
--- room for a copy of them
-pub room-for-rows : (n : ℕ) (words : List ℕ) (rows copy : List (List ℕ)) → map first_row rows ≡ rows_of n words → n ≤ length copy → length (take n copy) ≡ length rows
-room-for-rows n words rows copy e h = length-take-le n copy h ∙ sym (as-many n words rows e)
-
 -- a copy of the later rows
-pub rows-copied : (first later : ℕ) (words : List ℕ) {rows copy : List (List ℕ)} → map first_row rows ≡ rows_of later (take (length words - 3 * first) (drop (3 * first) words)) → copy ≡ rows → map first_row copy ≡ later_rows first (length copy) words
+pub rows-copied : {first later : ℕ} {words copy : List ℕ} → PartsReady first later words → copy ≡ mid_of (3 * first) (3 * (first + later) - 3 * first) words → rows_of later copy ≡ later_rows first later words
 unfolding later_rows
-rows-copied first later words {rows} e same =
-    let part = rest_part (3 * first) words in
-    rw (same, as-many later _ rows e) (rw part at e)
+rows-copied {first} {later} {words} ready e =
+    rw e (rows_taken later (3 * (first + later) - 3 * first) (drop (3 * first) words) (omega arith) (omega (arith, length-drop (3 * first) words, both-fit ready)))
 
 -- for the search for a proof
-pub ruleset copied = (room-for-rows, rows-copied)
+pub ruleset copied = (rows-copied)
 
 pub ruleset rest = (rest_part, length-drop)
