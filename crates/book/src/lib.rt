@@ -87,6 +87,7 @@ impl Settings {
 
     pub const SHAPE_MAX: u64 = 10_000_000;
 
+    // Kept: a number for a missing shape, and no Option, since C programs hold the shapes as numbers.
     pub const SHAPE_MISSING: u64 = 4_294_967_295;
 
     pub const TOLERANCE_MAX: u64 = 1_000;

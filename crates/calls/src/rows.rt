@@ -27,6 +27,8 @@ pub trait Rows {
 }
 
 // The rows of a book, in order.
+// Kept: no ghost field says that they are ready to be searched, as one of `Parts` does: these are made for one call, and would have to be shown
+// to be ready again after it, where no call follows.
 #[derive(Drop)]
 pub(crate) struct InOrder<'a> {
     pub rows: &'a mut [u64],
@@ -49,7 +51,7 @@ impl InOrder<'_> {
     }
 }
 
-// Kept: both are two lines over a `store`, as those of `Parts` in two_parts are over its own. A default of the trait for both would need one
+// Kept: both are a line or two over a `store`, as those of `Parts` in two_parts are over its own. A default of the trait for both would need one
 // `store` that is promised alike, and the two ask for different things.
 impl Rows for InOrder<'_> {
     ghost lent_rows = { λ r. lent_in_order r };

@@ -23,7 +23,7 @@ fn add_meter(cells: &mut [i64; 24], class: usize, wh: u64, llf: u64)
 // One pass over the rows: adds them to cells that are still 0, with losses not yet rounded, and counts them. The counts are
 // in an `Err` where a defaulted meter lacks its shape.
 // Kept: the caller lends the cells. A struct of cells and counts as the answer is copied, 6 KiB: an allocation of 64 meters took 3.38 µs with
-// it and 3.10 µs so, one of 65,536 meters 716 µs and 680 µs, each the mean of four places of the code in a line of 64 bytes.
+// it and 3.10 µs so, the mean of four places of the code in a line of 64 bytes.
 #[tactic(auto, using(crate::proofs::Gathering::few_and_seen))]
 pub fn gather(
     rows: &[[u64; 3]],

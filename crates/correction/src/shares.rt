@@ -77,6 +77,7 @@ pub fn hand_out(volumes: &mut [i64], fractions: &Fractions, lack: u64)
 {
     let keys = fractions.order_keys();
     let mut left = lack;
+    // Kept: nested loops that a label leaves, since document 01 asks for this form here; so no `filter` and `count` within.
     'units: for (unit, key) in keys.iter().enumerate() {
         let mut before = 0;
         for other in &keys {

@@ -37,7 +37,8 @@ impl TryFrom<u64> for Kind {
 
     ghost try_from_gives = { λ word outcome. result_ok outcome ≡ kind_of word };
 
-    // Kept: a match on numbers, since the words of a list are numbers that C programs write, and no derive reads them.
+    // Kept: a match on numbers, since the words of a list are numbers that C programs write, and no derive reads them; and `as`, the one way
+    // from an enum to its number.
     #[tactic(auto, unfolding(crate::specs::Kind::kind_of))]
     fn try_from(word: u64) -> Result<Kind, UnknownKind> {
         match word {
@@ -85,6 +86,7 @@ fn reading_of(words: &[u64; CALL_WORDS]) -> Reading
 }
 
 // The call that twelve words give. An unknown kind stands for a setting that is out of range.
+// Kept: no Result, since the definitions read an unknown kind so, as a call that is refused with 2.
 #[tactic(auto, unfolding(crate::specs::Kind::kind_of, crate::specs::Listed::call_of, crate::specs::Listed::setting_in))]
 fn call_of(words: &[u64; CALL_WORDS]) -> Call
     ensures { result ≡ call_of words.now }
@@ -128,7 +130,8 @@ fn make_each(
 {
     let mut made = settings;
     let mut parts = Parts::new(rows, settings.meters);
-    // Kept: tried with a zip of `iter_mut`, and nothing is known then of the numbers it has written, as in `correction::sums::all_units`.
+    // Kept: tried with a zip of `iter_mut`, and the proof didn't close: nothing is known then of the numbers it has written, as in
+    // `correction::sums::all_units`.
     for (i, words) in calls.iter().enumerate() {
         let outcome = make(&mut made, &mut parts, call_of(words));
         numbers[i] = number_given(&outcome);

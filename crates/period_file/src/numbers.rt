@@ -7,7 +7,7 @@ pub const DIGITS_MAX: usize = 18;
 const ZERO: u8 = b'0';
 
 // The value of a text of digits. 18 of them stay below 10^18, so the sum never wraps.
-// Kept: std's `parse` would take a plus before the digits, which no number has; the length and leading zeros are tested anyway.
+// Kept: std's `parse` is no plainer: it takes a `str`, and a plus before the digits, which no number has and would have to be tested for.
 #[tactic(auto, using(crate::proofs::Digits::digit_steps))]
 fn read_digits(text: &[u8]) -> Option<u64>
     requires { length text.now ≤ 18 }

@@ -100,6 +100,7 @@ impl Parts<'_> {
     }
 
     // Stores or replaces a meter's registration.
+    // Kept: this and `record` are a line or two over `store`, as those of rows in order are over theirs, and promise `border` besides.
     #[tactic(auto, using(crate::proofs::Registered::registered))]
     pub fn register(&mut self, mpan: u64, registration: Registration) -> Result<Stored, Refusal>
         ensures border { (self.new.first ≡ self.old.first) ⊎ (self.new.later ≡ 0) }
@@ -110,7 +111,6 @@ impl Parts<'_> {
     }
 
     // Stores a meter's reading if its issue is above the one held.
-    // Kept: this and `register` are a line or two over `store`, as those of rows in order are over theirs, and promise `border` besides.
     #[tactic(auto, using(crate::proofs::Recorded::recorded))]
     pub fn record(&mut self, mpan: u64, reading: Reading) -> Result<Stored, Refusal>
         ensures border { self.new.first ≡ self.old.first }

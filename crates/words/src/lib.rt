@@ -16,6 +16,7 @@ pub const MPAN_MIN: u64 = 1_000_000_000_000;
 pub const MPAN_MAX: u64 = 9_999_999_999_999;
 
 // Word 2 of a meter that has no reading.
+// Kept: a number, and no Option, since C programs hold word 2 as one.
 pub const NO_READING: u64 = 0;
 
 // How a meter is registered, as numbers of the full width, so that one out of range is seen and never cut.
@@ -139,7 +140,7 @@ impl Registration {
     }
 
     // The fields of a word.
-    // Kept: no `From<u64>`, since this is the other half of `pack`, which is asked only of fields in range and so is no `From` either.
+    // Kept: no `From<u64>`, which is no plainer: this is the other half of `pack`, which is asked only of fields in range and so can be no `From`.
     #[tactic(auto, unfolding(crate::specs::Registration::registration_of))]
     pub fn unpack(w: u64) -> Registration
         ensures { result ≡ registration_of w }
