@@ -27,11 +27,17 @@ static const meter meters[] = {
     {1800000000000, 0, 2, 1050, 10},
 };
 
-enum { METERS = sizeof meters / sizeof meters[0], ROWS = METERS * CEPNHOY_ROW_WORDS, UNITS = 3 };
+enum {
+    METERS = sizeof meters / sizeof meters[0],
+    ROWS = METERS * CEPNHOY_ROW_WORDS,
+    CELLS = CEPNHOY_SLICE_WORDS,
+    UNITS = 3
+};
 
 typedef struct {
     cepnhoy_settings settings;
     uint64_t rows[ROWS];
+    int64_t cells[CELLS];
     int refused; /* 1 if any call was */
 } book;
 
@@ -44,21 +50,25 @@ static void keep(book *b, cepnhoy_answer answer) {
  * not 0. */
 static void fill(book *b) {
     for (uint64_t class_ = 0; class_ < CEPNHOY_CLASSES; class_++)
-        keep(b, cepnhoy_set_weight(b->settings, b->rows, ROWS, class_, CEPNHOY_WEIGHT_MAX));
+        keep(b, cepnhoy_set_weight(
+                    b->settings, b->rows, ROWS, b->cells, CELLS, class_, CEPNHOY_WEIGHT_MAX));
     for (int i = 0; i < METERS; i++) {
         const meter *m = &meters[i];
         const cepnhoy_registration registration = {
             .segment = 1, .direction = m->direction, .status = 2, .base = m->unit, .llf = m->llf};
         const cepnhoy_reading reading = {.issue = 1, .quality = 0, .consumption = m->wh};
-        keep(b, cepnhoy_register(b->settings, b->rows, ROWS, m->mpan, registration));
-        keep(b, cepnhoy_record_reading(b->settings, b->rows, ROWS, m->mpan, reading));
+        keep(b, cepnhoy_register(
+                    b->settings, b->rows, ROWS, b->cells, CELLS, m->mpan, registration));
+        keep(b, cepnhoy_record_reading(
+                    b->settings, b->rows, ROWS, b->cells, CELLS, m->mpan, reading));
     }
 }
 
 static cepnhoy_allocated allocate(book *b, int64_t take_wh, int64_t *volumes) {
-    keep(b, cepnhoy_set_take(b->settings, b->rows, ROWS, take_wh));
-    const cepnhoy_allocated figures =
-        cepnhoy_allocate(b->settings, b->rows, ROWS, volumes, CEPNHOY_UNITS).answer;
+    keep(b, cepnhoy_set_take(b->settings, b->rows, ROWS, b->cells, CELLS, take_wh));
+    const cepnhoy_allocation_answer allocation = cepnhoy_allocate(
+        b->settings, b->rows, ROWS, b->cells, CELLS, volumes, CEPNHOY_UNITS);
+    const cepnhoy_allocated figures = allocation.answer;
     b->refused |= figures.number != CEPNHOY_ACCEPTED;
     return figures;
 }
@@ -80,7 +90,7 @@ static int reconcile(uint64_t unit, int64_t volume_wh, int64_t droppings) {
 }
 
 int main(void) {
-    book b = {cepnhoy_fresh(), {0}, 0};
+    book b = {cepnhoy_fresh(), {0}, {0}, 0};
     int64_t volumes[CEPNHOY_UNITS];
     fill(&b);
     /* With a Take of 0, U is what the units come to, with its sign turned. With that as the Take,

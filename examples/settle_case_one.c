@@ -24,10 +24,12 @@ enum { CALLS = sizeof calls / sizeof calls[0], METERS = 3 };
 
 int main(void) {
     uint64_t rows[METERS * CEPNHOY_ROW_WORDS];
+    int64_t cells[CEPNHOY_SLICE_WORDS] = {0};
     uint64_t numbers[CALLS];
     int64_t volumes[CEPNHOY_UNITS];
     const cepnhoy_allocation_answer settled = cepnhoy_settle_list(
         rows, METERS * CEPNHOY_ROW_WORDS,
+        cells, CEPNHOY_SLICE_WORDS,
         calls[0], CALLS * CEPNHOY_CALL_WORDS,
         numbers, CALLS,
         volumes, CEPNHOY_UNITS);

@@ -4,17 +4,25 @@
  *
  * THE BOOK
  *
- * One book covers one GSP Group and one Settlement Period. It has two parts, both kept by the
+ * One book covers one GSP Group and one Settlement Period. It has three parts, all kept by the
  * caller:
  *
  *   - the settings, a struct that goes into a call by value and comes back in the answer;
- *   - the rows, an array of 64-bit words, three words a meter.
+ *   - the rows, an array of 64-bit words, three words a meter;
+ *   - the cells, an array of signed 64-bit words, in which calls keep what the meters come to: see
+ *     THE RUNNING CELLS.
  *
- * A fresh book is the settings that cepnhoy_fresh() gives, with rows that may hold any words. Calls
- * then register meters, record readings and set weights, load shapes, tolerance and Take, one by
- * one or a whole list at once; cepnhoy_allocate works out the volumes of the 32 units, and
+ * A fresh book is the settings that cepnhoy_fresh() gives, with rows that may hold any words, and
+ * cells of 836 words 0:
+ *
+ *     cepnhoy_settings settings = cepnhoy_fresh();
+ *     uint64_t rows[METERS * CEPNHOY_ROW_WORDS];
+ *     int64_t cells[CEPNHOY_SLICE_WORDS] = {0};
+ *
+ * Calls then register meters, record readings and set weights, load shapes, tolerance and Take, one
+ * by one or a whole list at once; cepnhoy_allocate works out the volumes of the 32 units, and
  * cepnhoy_totals what network charges are billed from. Pass the settings that one call returned,
- * refused or not, to the next call with the same rows.
+ * refused or not, to the next call with the same rows and the same cells.
  *
  * Energy is in Wh. Weights and line loss factors are in thousandths, so 1000 stands for 1.
  *
@@ -30,8 +38,9 @@
  * cepnhoy_make_calls and cepnhoy_settle_list.
  *
  * The caller need not check numbers before a call: any number may be passed, and one out of range
- * is refused, never cut. Any settings and any rows may be passed as well; if accepted calls could
- * not have written them, the book is ill formed and the number is 1.
+ * is refused, never cut. Any settings, any rows and any cells may be passed as well; if accepted
+ * calls could not have written the settings or the rows, or if the cells pass a limit, the book is
+ * ill formed and the number is 1.
  *
  * ARRAYS
  *
@@ -42,7 +51,8 @@
  *     const.
  *   - It is aligned to 8 bytes and is not null, also when the length is 0. With length 0 it need
  *     not point to anything.
- *   - The rows, the calls, the numbers, the volumes and the totals of one call must not overlap.
+ *   - The rows, the cells, the calls, the numbers, the volumes and the totals of one call must not
+ *     overlap.
  *   - The library keeps no pointer after a call returns.
  *
  * THREADS
@@ -55,14 +65,16 @@
  *
  * STACK
  *
- * A list of calls needs 16 KiB of stack, an allocation 11 KiB and any other call 3 KiB, however
- * many meters there are. The first call of a program may need 4 KiB more, for the dynamic linker.
- * These are measured figures: allow 32 KiB.
+ * A list of calls needs 18 KiB of stack, an allocation 11 KiB, a shape call 10 KiB and any other
+ * call 5 KiB, however many meters there are. The first call of a program may need 4 KiB more, for
+ * the dynamic linker. These are measured figures: allow 32 KiB.
  *
  * TIME
  *
  * A single call tests the whole book before it does anything, so its time grows with the number of
- * meters. A list of calls tests the book once. For more than a few calls, use a list.
+ * meters. A list of calls tests the book once. For more than a few calls, use a list. A shape call
+ * also looks at every meter, in a list too, since it changes the cells of all that wait for it. An
+ * allocation works from the cells, and looks at the rows only to test them.
  *
  * LINKING
  *
@@ -108,6 +120,8 @@ extern "C" {
 #define CEPNHOY_ROW_WORDS 3       /* words of a meter's row */
 #define CEPNHOY_CALL_WORDS 12     /* words of a call in a list */
 #define CEPNHOY_TOTALS_WORDS 4096 /* words of totals, four for each tariff */
+#define CEPNHOY_SLICE_WORDS 836   /* words of the cells that calls use: see THE RUNNING CELLS */
+#define CEPNHOY_CELL_WORDS 768    /* how many of these, the first ones, are cells */
 
 /* RANGES
  *
@@ -189,13 +203,56 @@ extern "C" {
  *
  *   1000 x rounded losses + droppings = exact losses of its meters
  *
- * where both losses are those of import less those of export. Weights, tolerance and Take play no
+ * where both losses are those of import less those of export. If the cells were filled by hand, the
+ * exact losses are those of the unit's cells of losses instead. Weights, tolerance and Take play no
  * part in droppings. The file examples/reconcile_losses.c works with them. */
+
+/* THE RUNNING CELLS
+ *
+ * The cells are lent to every call but cepnhoy_fresh and cepnhoy_totals, right after the rows. They
+ * hold what the meters of the book come to, and calls keep that up to date, so whoever watches them
+ * needs no allocation:
+ *
+ *   cells[24 * unit + class]   768 words: the energy of this unit and class in thousandths of a Wh,
+ *                              unrounded. In a class of losses it is the sum of
+ *                              (line loss factor - 1000) x energy, in any other that of
+ *                              1000 x energy
+ *   cells[768]                 how many meters use a reading with an actual code
+ *   cells[769]                 how many use a reading with another code
+ *   cells[770]                 how many are defaulted
+ *   cells[771]                 how many are idle
+ *   cells[772 + category]      64 words: how many defaulted meters wait in this category for a
+ *                              reading, whether its load shape is missing or not
+ *
+ * Start a fresh book with 836 words 0. Words after these are not read and not written.
+ *
+ * Each word is so a sum over the rows, in which a missing load shape is 0 Wh. Register, reading and
+ * shape calls, alone or in a list, add to each word by how much they change its sum; a shape call
+ * so changes the cells of all meters that wait in its category. No other call writes the cells. If
+ * the 836 words of a fresh book are 0 and nobody else writes them, each word is its sum after every
+ * call, the four counts add up to the meters, and no call is refused for the cells. What this
+ * header says of meters in an allocation is said of such cells.
+ *
+ * Cells may be filled by hand. A call changes them by the same amounts, and an allocation takes
+ * them as they read: every one of the 768 is rounded to the nearest Wh, halves away from zero,
+ * those of energy too; the counts in the answer are words 768 to 771; refusal 9 is a waiting number
+ * above 0 whose load shape is missing; and droppings are those of cells of losses only. Of the rows
+ * an allocation uses nothing: it only tests them.
+ *
+ * The limits: the sizes of the 768 cells, that is their numbers without the sign, add up to
+ * CEPNHOY_CELL_SIZES_MAX at most, and every count and waiting number is from 0 to
+ * CEPNHOY_COUNT_MAX. Cells that pass a limit are refused with 1. A register, reading or shape call
+ * that would leave such cells is refused with 1 as well, if there is no other cause to refuse it.
+ *
+ * The file examples/watch_cells.c watches a few of these words. */
+
+#define CEPNHOY_CELL_SIZES_MAX INT64_C(1310720000000000) /* thousandths of a Wh */
+#define CEPNHOY_COUNT_MAX INT64_C(4294967295)            /* of a count, and of a waiting number */
 
 /* NUMBERS GIVEN */
 
 #define CEPNHOY_ACCEPTED 0
-#define CEPNHOY_BOOK_ILL_FORMED 1          /* accepted calls could not have left this book */
+#define CEPNHOY_BOOK_ILL_FORMED 1          /* no calls leave this book, or a limit of the cells */
 #define CEPNHOY_ARGUMENT_OUT_OF_RANGE 2    /* or, in a list, a call of no known kind */
 #define CEPNHOY_QUALITY_REFUSED 3          /* code 14, or one of 17 to 20 with more than 0 Wh */
 #define CEPNHOY_METER_UNKNOWN 4            /* a reading of a meter that is not registered */
@@ -203,10 +260,11 @@ extern "C" {
 #define CEPNHOY_CAPACITY_REACHED 6         /* a new meter, and there is no free row */
 #define CEPNHOY_VOLUMES_SHORT 7            /* the volumes have fewer than 32 words */
 #define CEPNHOY_TAKE_UNSET 8               /* no Take was set */
-#define CEPNHOY_SHAPE_OF_DEFAULT_MISSING 9 /* the load shape of a defaulted meter is missing */
+#define CEPNHOY_SHAPE_OF_DEFAULT_MISSING 9 /* defaulted meters wait, and their shape is missing */
 #define CEPNHOY_WEIGHTED_BELOW_ONE 10      /* W is below 1: no weighted energy to correct */
 #define CEPNHOY_TOLERANCE_EXCEEDED 11      /* the size of U x 1,000,000 is above tolerance x W */
 #define CEPNHOY_TOTALS_SHORT 12            /* the totals have fewer than 4,096 words */
+#define CEPNHOY_CELLS_SHORT 13             /* the cells have fewer than 836 words */
 #define CEPNHOY_LIST_MISSHAPEN 19          /* calls_length no multiple of 12, or too few numbers */
 
 /* THE ROWS
@@ -235,8 +293,8 @@ extern "C" {
  *     bits 29-31     0
  *     bits 32-63     issue, which is never 0 in a reading
  *
- * To store a book, keep the settings and the first 3 x settings.meters words. Longer rows may be
- * passed with it later. */
+ * To store a book, keep the settings, the first 3 x settings.meters words and the 836 words of the
+ * cells. Longer rows may be passed with it later. */
 
 #define CEPNHOY_NO_READING 0
 
@@ -287,10 +345,10 @@ typedef struct {
     uint64_t number;     /* 0 or the number of a refusal */
     int64_t unallocated; /* U: the Take less all import, plus all export, losses counted, in Wh */
     int64_t weighted;    /* W: the sum of weight x energy over all classes, in thousandths of Wh */
-    uint64_t actual;     /* how many meters used a reading with an actual code */
-    uint64_t estimated;  /* how many used a reading with another code */
-    uint64_t defaulted;  /* how many used the load shape of their category */
-    uint64_t idle;       /* how many have no energy; the four counts add up to the meters */
+    uint64_t actual;     /* how many meters used a reading with an actual code: cells[768] */
+    uint64_t estimated;  /* how many used a reading with another code: cells[769] */
+    uint64_t defaulted;  /* how many used the load shape of their category: cells[770] */
+    uint64_t idle;       /* how many have no energy: cells[771] */
     int64_t droppings[CEPNHOY_UNITS]; /* by unit, in thousandths of Wh: see THE LOSSES OF A UNIT */
 } cepnhoy_allocated;
 
@@ -302,50 +360,59 @@ typedef struct {
 
 /* SINGLE CALLS
  *
- * Beside each stand the refusals that it can give, in their order. */
+ * Beside each stand the refusals that it can give, in their order. Refusal 1 stands twice where a
+ * call can also leave cells that pass a limit: that is looked for last. */
 
 /* The settings of a fresh book: no meters, all weights 0, all load shapes missing, tolerance 1000,
  * no Take. */
 cepnhoy_settings cepnhoy_fresh(void);
 
 /* Registers a meter, or replaces the registration of a known one, which keeps its reading. Refusals
- * 1, 2, 6. */
+ * 13, 1, 2, 6, 1. */
 cepnhoy_answer cepnhoy_register(
     cepnhoy_settings settings, uint64_t *rows, size_t rows_length,
+    int64_t *cells, size_t cells_length,
     uint64_t mpan, cepnhoy_registration registration);
 
-/* Stores a meter's reading if its issue is above that of the stored one. Refusals 1, 2, 3, 4, 5. */
+/* Stores a meter's reading if its issue is above that of the stored one. Refusals 13, 1, 2, 3, 4,
+ * 5, 1. */
 cepnhoy_answer cepnhoy_record_reading(
     cepnhoy_settings settings, uint64_t *rows, size_t rows_length,
+    int64_t *cells, size_t cells_length,
     uint64_t mpan, cepnhoy_reading reading);
 
-/* Replaces the load shape of a category. CEPNHOY_SHAPE_MISSING sets it back to missing. Refusals
- * 1, 2. */
+/* Replaces the load shape of a category. CEPNHOY_SHAPE_MISSING sets it back to missing. The cells
+ * of all meters that wait in the category change with it. Refusals 13, 1, 2, 1. */
 cepnhoy_answer cepnhoy_set_shape(
     cepnhoy_settings settings, const uint64_t *rows, size_t rows_length,
+    int64_t *cells, size_t cells_length,
     uint64_t category, uint64_t wh);
 
-/* Replaces the weight of a class. Refusals 1, 2. */
+/* Replaces the weight of a class. Refusals 13, 1, 2. */
 cepnhoy_answer cepnhoy_set_weight(
     cepnhoy_settings settings, const uint64_t *rows, size_t rows_length,
+    const int64_t *cells, size_t cells_length,
     uint64_t class_, uint64_t thousandths);
 
-/* Replaces the tolerance g. Refusals 1, 2. */
+/* Replaces the tolerance g. Refusals 13, 1, 2. */
 cepnhoy_answer cepnhoy_set_tolerance(
     cepnhoy_settings settings, const uint64_t *rows, size_t rows_length,
+    const int64_t *cells, size_t cells_length,
     uint64_t g);
 
-/* Sets the Take, in Wh. Refusals 1, 2. */
+/* Sets the Take, in Wh. Refusals 13, 1, 2. */
 cepnhoy_answer cepnhoy_set_take(
     cepnhoy_settings settings, const uint64_t *rows, size_t rows_length,
+    const int64_t *cells, size_t cells_length,
     int64_t wh);
 
 /* Allocates the Take to the 32 units, and writes the volume of unit i, in Wh, to volumes[i]. The
  * volumes add up to the Take. What rounding dropped of the losses of unit i is droppings[i] in the
- * answer. Words after the 32nd are not written, and the book is not changed. Refusals 1, 7, 8, 9,
- * 10, 11. */
+ * answer. It works from the cells. Words after the 32nd are not written, and the book is not
+ * changed. Refusals 13, 1, 7, 8, 9, 10, 11. */
 cepnhoy_allocation_answer cepnhoy_allocate(
     cepnhoy_settings settings, const uint64_t *rows, size_t rows_length,
+    const int64_t *cells, size_t cells_length,
     int64_t *volumes, size_t volumes_length);
 
 /* Works out what network charges are billed from, for the meters of one direction and one embedded
@@ -362,8 +429,8 @@ cepnhoy_allocation_answer cepnhoy_allocate(
  * part, and the Take need not be set. The actual and other Wh of all tariffs and all 64 networks
  * add up to the energy of that direction in all classes but those of losses.
  *
- * Words after the 4,096th are not written, the book is not changed, and the settings in the answer
- * are those passed.
+ * The totals are worked from the rows: the cells are not lent to this call. Words after the 4,096th
+ * are not written, the book is not changed, and the settings in the answer are those passed.
  *
  * Refusals 1, 2, 12, 9. Refusal 2 is a direction above 1 or a network above 63. Refusal 9 is given
  * for any meter of the book, also one of another direction or network than those asked for. */
@@ -407,20 +474,25 @@ cepnhoy_answer cepnhoy_totals(
  *
  * If the list is misshapen, the answer's number is 19, nothing was done, and no number was written.
  * Otherwise it is 0, which says only that each call has its number. Any of these may be a refusal;
- * if the book is ill formed, all of them are 1. Refusal 19. */
+ * if the cells are short, all of them are 13, and else, if the book is ill formed, all are 1.
+ * Refusal 19. */
 cepnhoy_answer cepnhoy_make_calls(
     cepnhoy_settings settings, uint64_t *rows, size_t rows_length,
+    int64_t *cells, size_t cells_length,
     const uint64_t *calls, size_t calls_length,
     uint64_t *numbers, size_t numbers_length);
 
-/* Settles a half hour: makes the calls of a list on a fresh book with these rows, as
- * cepnhoy_make_calls does, and allocates, as cepnhoy_allocate does.
+/* Settles a half hour: makes the calls of a list from the fresh settings, on these rows and these
+ * cells, as cepnhoy_make_calls does, and allocates, as cepnhoy_allocate does. For a fresh book the
+ * first 836 words of the cells have to be 0 before.
  *
  * If the answer's number is 19, nothing was done. If it is any other, the calls were made, their
  * numbers are written and the settings are those after the list; a refusal is then that of the
- * allocation, which wrote no volume. Refusals 19, 7, 8, 9, 10, 11. */
+ * allocation, which wrote no volume. With short cells, or cells that pass a limit, each call was
+ * refused with the number that the allocation has. Refusals 19, 13, 1, 7, 8, 9, 10, 11. */
 cepnhoy_allocation_answer cepnhoy_settle_list(
     uint64_t *rows, size_t rows_length,
+    int64_t *cells, size_t cells_length,
     const uint64_t *calls, size_t calls_length,
     uint64_t *numbers, size_t numbers_length,
     int64_t *volumes, size_t volumes_length);

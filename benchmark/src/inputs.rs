@@ -45,11 +45,12 @@ impl Meter {
     }
 }
 
-/// A register or reading call, to be made by itself or in a list.
+/// A register, reading or shape call, to be made by itself or in a list.
 #[derive(Clone, Copy)]
 pub enum Single {
     Register { mpan: u64, registration: Registration },
     Reading { mpan: u64, reading: Reading },
+    Shape { category: u64, wh: u64 },
 }
 
 impl Single {
@@ -70,6 +71,7 @@ impl Single {
                 r.tariff,
             ],
             Single::Reading { mpan, reading: r } => filled([KIND_READING, mpan, r.issue, r.quality, r.consumption]),
+            Single::Shape { category, wh } => filled([KIND_SHAPE, category, wh]),
         }
     }
 }
@@ -178,9 +180,14 @@ impl HalfHour {
     }
 }
 
+/// The first shapes are from 100 to 163 Wh; these are others.
+pub fn other_shapes(count: usize, random: &mut Random) -> Vec<Single> {
+    (0..count).map(|_| Single::Shape { category: random.below(64), wh: 200 + random.below(2_000) }).collect()
+}
+
 fn setting_words(take: u64) -> Vec<[u64; CALL_WORDS]> {
     let weights = (0..24).map(|class| filled([KIND_WEIGHT, class, 1_000]));
-    let shapes = (0..64).map(|category| filled([KIND_SHAPE, category, 100 + category]));
+    let shapes = (0..64).map(|category| Single::Shape { category, wh: 100 + category }.words());
     let take = filled([KIND_TAKE, take]);
     weights.chain(shapes).chain([take]).collect()
 }

@@ -2,18 +2,19 @@
 
 use std::hint::black_box;
 
-use crate::inputs::{at_the_end, at_the_front, network, HalfHour, Meter, Random, Single};
+use crate::inputs::{at_the_end, at_the_front, network, other_shapes, HalfHour, Meter, Random, Single};
 use crate::sides::{Side, LIBRARY};
-use cepnhoy::{Settings, CALL_WORDS, ROW_WORDS, TOTALS_WORDS, UNITS};
+use cepnhoy::{Settings, CALL_WORDS, ROW_WORDS, SLICE_WORDS, TOTALS_WORDS, UNITS};
 
 /// How many single calls are timed together: few clocks are fine enough for one.
 pub const TOGETHER: usize = 32;
 
-/// A book, with room for as many meters as it is measured at.
+/// A book with its running cells, and with room for as many meters as it is measured at.
 #[derive(Clone, PartialEq)]
 pub struct Book {
     pub settings: Settings,
     pub rows: Vec<u64>,
+    pub cells: Vec<i64>,
 }
 
 /// What an operation leaves and gives, to compare.
@@ -46,7 +47,7 @@ pub struct Operation {
 }
 
 pub fn fresh(meters: usize) -> Book {
-    Book { settings: cepnhoy::fresh(), rows: vec![0; ROW_WORDS * meters] }
+    Book { settings: cepnhoy::fresh(), rows: vec![0; ROW_WORDS * meters], cells: vec![0; SLICE_WORDS] }
 }
 
 /// A book that the library reached by the calls of a half hour, with this much room.
@@ -54,7 +55,7 @@ fn reached(half_hour: &HalfHour, room: usize) -> Book {
     let mut book = fresh(room);
     let list = half_hour.list(&half_hour.calls(None));
     let mut numbers = vec![0; list.len() / CALL_WORDS];
-    let answer = cepnhoy::make_calls(book.settings, &mut book.rows, &list, &mut numbers);
+    let answer = cepnhoy::make_calls(book.settings, &mut book.rows, &mut book.cells, &list, &mut numbers);
     assert!(numbers.iter().all(|number| *number == 0), "the half hour to measure is refused in part");
     book.settings = answer.settings;
     book
@@ -105,6 +106,7 @@ pub fn all(meters: usize, random: &mut Random) -> Vec<Operation> {
         single("one registration of a known meter", &full, registrations(&known)),
         single("one new registration at the end", &with_room, registrations(&at_the_end(TOGETHER, random))),
         single("one new registration at the front", &with_room, registrations(&at_the_front(TOGETHER, random))),
+        single("one shape call", &full, other_shapes(TOGETHER, random)),
         Operation { name: "one allocation", start: full.clone(), work: Work::Allocations, calls: TOGETHER },
         Operation {
             name: "one totals call",
@@ -143,12 +145,13 @@ impl Operation {
             Work::Allocations => allocations(side, on),
             Work::Totals(asked) => all_totals(side, asked, on),
             Work::List(calls) => {
-                let answer = (side.make_calls)(on.book.settings, &mut on.book.rows, calls, &mut on.numbers);
-                on.book.settings = answer.settings;
+                let Book { settings, rows, cells } = &mut on.book;
+                *settings = (side.make_calls)(*settings, rows, cells, calls, &mut on.numbers).settings;
             }
             Work::HalfHour(calls) => {
-                let made = (side.settle_list)(&mut on.book.rows, calls, &mut on.numbers, &mut on.volumes);
-                on.book.settings = made.settings;
+                let Book { settings, rows, cells } = &mut on.book;
+                let made = (side.settle_list)(rows, cells, calls, &mut on.numbers, &mut on.volumes);
+                *settings = made.settings;
                 on.figures = Some(made.answer);
             }
         }
@@ -165,10 +168,11 @@ impl Operation {
 
 fn singles(side: &Side, calls: &[Single], on: &mut Outcome) {
     for (call, number) in calls.iter().zip(&mut on.numbers) {
-        let (settings, rows) = (on.book.settings, &mut on.book.rows);
+        let (settings, rows, cells) = (on.book.settings, &mut on.book.rows, &mut on.book.cells);
         let answer = match *black_box(call) {
-            Single::Register { mpan, registration } => (side.register)(settings, rows, mpan, registration),
-            Single::Reading { mpan, reading } => (side.record_reading)(settings, rows, mpan, reading),
+            Single::Register { mpan, registration } => (side.register)(settings, rows, cells, mpan, registration),
+            Single::Reading { mpan, reading } => (side.record_reading)(settings, rows, cells, mpan, reading),
+            Single::Shape { category, wh } => (side.set_shape)(settings, rows, cells, category, wh),
         };
         *number = answer.number;
         on.book.settings = answer.settings;
@@ -177,7 +181,8 @@ fn singles(side: &Side, calls: &[Single], on: &mut Outcome) {
 
 fn allocations(side: &Side, on: &mut Outcome) {
     for number in &mut on.numbers {
-        let made = (side.allocate)(on.book.settings, black_box(&on.book.rows), &mut on.volumes);
+        let Book { settings, rows, cells } = black_box(&on.book);
+        let made = (side.allocate)(*settings, rows, cells, &mut on.volumes);
         *number = made.answer.number;
         on.book.settings = made.settings;
         on.figures = Some(made.answer);

@@ -1,12 +1,14 @@
 //! Random lists of calls: some near document 01's cases, some at the ends of every range, some out of it.
 
 use crate::call::Call;
+use crate::cells::random_slice;
 use crate::check::Case;
 use crate::entry::Entry;
-use crate::model::allocation::Sums;
+use crate::model::allocation::{Gathered, Sums};
 use crate::model::ranges::{call_in_range, capacity};
+use crate::model::slice::{sum_over, WORDS};
 use crate::model::words::{reading_word, registration_word};
-use crate::model::Book;
+use crate::model::{Book, Running};
 use crate::profile::{random_number, Profile};
 use crate::random::Random;
 use cepnhoy::{Reading, Registration};
@@ -21,7 +23,7 @@ pub fn random_call_on(mpans: &[u64], entry: Entry, random: &mut Random) -> Call 
 }
 
 /// Different MPANs: some at the ends of the range, some side by side, some anywhere.
-fn random_mpans(count: usize, random: &mut Random) -> Vec<u64> {
+pub fn random_mpans(count: usize, random: &mut Random) -> Vec<u64> {
     let (least, most) = (1_000_000_000_000, 9_999_999_999_999);
     let start = random.between(least, most - 1_000);
     let mut mpans = Vec::with_capacity(count);
@@ -93,18 +95,19 @@ pub fn random_volume_words(random: &mut Random) -> usize {
 pub fn random_case(random: &mut Random) -> Case {
     let row_words = random_row_words(random);
     let rows = random_rows(row_words, random);
+    let cells = random_slice(random);
     let room = capacity(row_words);
     let mpan_count = 1 + random.index(room + room / 4 + 2);
     let profile = Profile::random(random_mpans(mpan_count, random), random);
     let mut calls = random_list(&profile, random);
     if random.percent(90) {
-        aim_take(&rows, &mut calls, random);
+        aim_take(&rows, &cells, &mut calls, random);
     }
     for _ in 0..random.index(3) {
         calls.push(profile.any_call(15, random));
     }
     let volume_words = random_volume_words(random);
-    Case { rows, calls, volumes: random.signed_words(volume_words), seed: random.word() }
+    Case { rows, cells, calls, volumes: random.signed_words(volume_words), seed: random.word() }
 }
 
 fn random_list(profile: &Profile, random: &mut Random) -> Vec<Call> {
@@ -145,20 +148,34 @@ fn aim_readings(calls: &mut [Call], random: &mut Random) {
     }
 }
 
-/// Adds a Take that the tolerance just allows, just refuses, or allows amply.
-fn aim_take(rows: &[u64], calls: &mut Vec<Call>, random: &mut Random) {
+/// The slice within its limits that calls leave if none of them is refused for it: its words, with what the meters come to added.
+fn added_up(cells: &[i64], book: &Book) -> Vec<i64> {
+    let sums = sum_over(&book.contents());
+    cells.iter().zip(sums).map(|(word, sum)| word + i64::try_from(sum).expect("what meters come to fits")).collect()
+}
+
+/// A Take that the tolerance just allows, just refuses, or allows amply, for a book with these cells; none if it isn't in range.
+pub fn aimed_take(book: &Book, gathered: Gathered, random: &mut Random) -> Option<Call> {
+    let contents = book.contents();
+    let sums = Sums::of(gathered, &contents.weights);
+    let most = (i128::from(contents.tolerance) * sums.weighted.max(0) / 1_000_000) as i64;
+    let within = random.between_signed(-most, most);
+    let unallocated = *random.pick(&[0, 1, -1, most, most + 1, -most, -most - 1, within, within]);
+    let call = Call::Take { wh: i64::try_from(sums.net_wh + i128::from(unallocated)).ok()? };
+    call_in_range(&call).then_some(call)
+}
+
+/// Adds a Take that is aimed at what the calls come to.
+fn aim_take(rows: &[u64], cells: &[i64], calls: &mut Vec<Call>, random: &mut Random) {
+    if Running::cause_of_cells(cells).is_some() {
+        return;
+    }
     let mut book = Book::fresh(rows.to_vec());
     for call in calls.iter() {
         book.make(call);
     }
-    let contents = book.contents();
-    let sums = Sums::of(&contents);
-    let most = (i128::from(contents.tolerance) * sums.weighted.max(0) / 1_000_000) as i64;
-    let within = random.between_signed(-most, most);
-    let unallocated = *random.pick(&[0, 1, -1, most, most + 1, -most, -most - 1, within, within]);
-    let wh = sums.net_wh as i64 + unallocated;
-    let call = Call::Take { wh };
-    if call_in_range(&call) {
+    let gathered = Gathered::of_slice(&added_up(cells, &book), &book.contents().shapes);
+    if let Some(call) = aimed_take(&book, gathered, random) {
         // Earlier than at the end, another Take may come after it, and allocations on the way find one set.
         let place = match random.percent(30) {
             true => calls.len(),
@@ -187,7 +204,7 @@ pub fn random_calls_in_order(meters: usize, random: &mut Random) -> Vec<Call> {
     add_calls(&mut calls, &profile, Entry::Reading, 3 * meters, random);
     // The Take is aimed at what the others come to, and stands first.
     if random.percent(90) {
-        aim_take(&[0; 3 * 512], &mut calls, random);
+        aim_take(&[0; 3 * 512], &[0; WORDS], &mut calls, random);
         calls.sort_by_key(|call| !matches!(call, Call::Take { .. }));
     }
     calls

@@ -2,14 +2,16 @@
 
 use crate::books::random_volume_words;
 use crate::call::{list_words, Call};
-use crate::compare::{at, same, same_allocated, same_settings, same_words, Checked};
+use crate::cells::{check_cells, note_kept, note_listed_cells, short_slice};
+use crate::compare::{at, same, same_allocated, same_settings, same_words, Checked, Failure};
 use crate::droppings::check_reconciled;
 use crate::entry::Entry;
 use crate::lent::{Guarded, Lent};
-use crate::model::allocation::{allocate, Allocation};
+use crate::model::allocation::{allocate, Allocation, Gathered};
 use crate::model::cells::Contents;
 use crate::model::ranges::capacity;
-use crate::model::{Book, Meaning};
+use crate::model::slice::{sum_over, WORDS};
+use crate::model::{Book, Meaning, Running};
 use crate::observe::{note_allocation, note_call, note_list};
 use crate::random::Random;
 use crate::reach::Reach;
@@ -21,36 +23,81 @@ use cepnhoy::CALL_WORDS;
 #[derive(Clone, Debug)]
 pub struct Case {
     pub rows: Vec<u64>,
+    /// All 0 as for a fresh book, or filled by hand.
+    pub cells: Vec<i64>,
     pub calls: Vec<Call>,
     pub volumes: Vec<i64>,
     /// Chooses what else is tried on the way, so that the same case is always checked in the same way.
     pub seed: u64,
 }
 
+impl Case {
+    /// Whether a list means what it means for this slice: long enough, and its first 836 words at 0.
+    pub fn starts_at_zero(&self) -> bool {
+        self.cells.get(..WORDS).is_some_and(|words| words.iter().all(|word| *word == 0))
+    }
+
+    fn fresh(&self) -> Running {
+        Running { book: Book::fresh(self.rows.clone()), cells: self.cells.clone() }
+    }
+}
+
 /// What the second method makes of a case: each call's number, and the book at the end.
 pub struct Expected {
     pub numbers: Vec<u64>,
-    pub book: Book,
+    pub running: Running,
 }
 
 impl Expected {
     pub fn of(case: &Case) -> Expected {
-        let mut book = Book::fresh(case.rows.clone());
+        let mut running = case.fresh();
+        let numbers = case.calls.iter().map(|call| running.make(call)).collect();
+        Expected { numbers, running }
+    }
+
+    /// The same for a slice at 0, with one sum for the whole list, so that a large book can be worked: "after every list of calls from a
+    /// fresh book the slice equals a sum over the rows", and no call is refused for it.
+    pub fn at_once(case: &Case) -> Expected {
+        assert!(case.starts_at_zero());
+        let Running { mut book, mut cells } = case.fresh();
         let numbers = case.calls.iter().map(|call| book.make(call)).collect();
-        Expected { numbers, book }
+        for (word, sum) in cells.iter_mut().zip(sum_over(&book.contents())) {
+            *word = i64::try_from(sum).expect("what meters come to fits 64 bits");
+        }
+        Expected { numbers, running: Running { book, cells } }
     }
 }
 
 /// Checks a case in every way, calls made one by one included.
 pub fn check_case(case: &Case, reach: &mut Reach) -> Checked {
     let expected = Expected::of(case);
-    note_list(reach, &case.calls, &expected.numbers, &expected.book);
+    let book = &expected.running.book;
+    note_list(reach, &case.calls, &expected.numbers, book);
+    check_kept_up(case, &expected)?;
     check_steps(case, reach)?;
     check_lists(case, &expected, reach)?;
     check_resumed(case, &expected, reach)?;
     check_misshapen(case, reach)?;
-    check_reconciled(&expected.book, reach)?;
-    check_book_totals(&expected.book, &case.volumes, &mut Random::part(case.seed, 8), reach)
+    check_reconciled(book, reach)?;
+    check_cells(book, &mut Random::part(case.seed, 9), reach)?;
+    check_book_totals(book, &case.volumes, &mut Random::part(case.seed, 8), reach)
+}
+
+/// What request 4 claims of a list for a slice at 0, of the second method itself, which adds up the changes of each call: the slice is a
+/// sum over the rows, its allocation the one worked from the meters, and no call was refused for it.
+fn check_kept_up(case: &Case, expected: &Expected) -> Checked {
+    if !case.starts_at_zero() {
+        return Ok(());
+    }
+    let Running { book, cells } = &expected.running;
+    let sum: Vec<i128> = sum_over(&book.contents());
+    let kept: Vec<i128> = cells[..WORDS].iter().map(|word| i128::from(*word)).collect();
+    same_words("cells that the model kept up, against the sum over its meters", &kept, &sum)?;
+    same("calls refused for the cells", expected.numbers.iter().filter(|number| [1, 13].contains(*number)).count(), 0)?;
+    let (from_slice, from_meters) = (expected.running.allocate(case.volumes.len()), book.allocate(case.volumes.len()));
+    let place = || String::from("allocated from the slice (\"library\") and from the meters (\"model\")");
+    at(place, same_allocated(&from_slice.answer, &from_meters.answer))?;
+    same_words("volumes", &from_slice.volumes_after(&case.volumes), &from_meters.volumes_after(&case.volumes))
 }
 
 /// Checks a case made as one list only.
@@ -62,69 +109,73 @@ pub fn check_lists(case: &Case, expected: &Expected, reach: &mut Reach) -> Check
 /// Calls made one by one, with allocations here and there and one at the end.
 fn check_steps(case: &Case, reach: &mut Reach) -> Checked {
     let random = &mut Random::part(case.seed, 1);
-    let mut lent = Lent::fresh(&case.rows);
-    let mut book = Book::fresh(case.rows.clone());
-    at(|| String::from("fresh"), same_settings(&lent.settings, &book.settings()))?;
+    let mut lent = Lent::fresh(&case.rows, &case.cells);
+    let mut running = case.fresh();
+    at(|| String::from("fresh"), same_settings(&lent.settings, &running.book.settings()))?;
     for (index, call) in case.calls.iter().enumerate() {
         let place = || format!("call {} by itself, {call}", index + 1);
-        at(place, check_step(&mut lent, &mut book, call, reach))?;
+        at(place, check_step(&mut lent, &mut running, call, reach))?;
         if random.percent(10) {
             let volume_words = random_volume_words(random);
             let volumes = random.signed_words(volume_words);
             let place = || format!("allocation after call {}, {call}", index + 1);
-            at(place, check_allocation(&mut lent, Some(&book), &volumes, reach))?;
+            at(place, check_allocation(&mut lent, Some(&running), &volumes, reach))?;
         }
         if random.percent(5) {
-            let asked = random_asked(&book.contents(), random);
+            let asked = random_asked(&running.book.contents(), random);
             let place = || format!("{asked} after call {}, {call}", index + 1);
-            at(place, check_totals(&mut lent, Some(&book), &asked, random, reach))?;
+            at(place, check_totals(&mut lent, Some(&running.book), &asked, random, reach))?;
         }
     }
     let place = || String::from("allocation after the calls one by one");
-    at(place, check_allocation(&mut lent, Some(&book), &case.volumes, reach))
+    at(place, check_allocation(&mut lent, Some(&running), &case.volumes, reach))
 }
 
-fn check_step(lent: &mut Lent, book: &mut Book, call: &Call, reach: &mut Reach) -> Checked {
-    let Some(entry) = Entry::single(call) else {
-        return Ok(());
-    };
-    let number = book.number(call);
-    reach.note_number(entry, number);
-    note_call(reach, book, call, number);
-    book.make(call);
-    check_call(lent, call, number, Some(book))
+fn check_step(lent: &mut Lent, running: &mut Running, call: &Call, reach: &mut Reach) -> Checked {
+    match Entry::single(call) {
+        Some(entry) => check_single(lent, running, entry, call, reach),
+        None => Ok(()),
+    }
+}
+
+/// Makes a call by its entry point, on both sides, and notes what it met.
+pub fn check_single(lent: &mut Lent, running: &mut Running, entry: Entry, call: &Call, reach: &mut Reach) -> Checked {
+    let before = running.clone();
+    let attempt = running.attempt(call);
+    reach.note_number(entry, attempt.number());
+    note_call(reach, &before, call, &attempt);
+    note_kept(reach, &before, call, running, &attempt);
+    check_call(lent, call, attempt.number(), Some(running))
 }
 
 /// Makes a call by its entry point. It must give the number, and leave the book, or leave all as it was if there is none.
-pub fn check_call(lent: &mut Lent, call: &Call, number: u64, book: Option<&Book>) -> Checked {
-    let (settings, rows) = match book {
-        Some(book) => (book.settings(), book.words()),
-        None => (lent.settings, lent.rows.contents().to_vec()),
-    };
+pub fn check_call(lent: &mut Lent, call: &Call, number: u64, running: Option<&Running>) -> Checked {
+    let after = lent.afterwards(running);
     let given = lent.make(call).expect("the call has an entry point");
     same("number", given, number)?;
-    same_settings(&lent.settings, &settings)?;
-    same_words("rows", lent.rows.contents(), &rows)?;
-    lent.rows.check_guards("row")
+    lent.check(&after)
+}
+
+/// The number of a call on a book that isn't well formed.
+pub fn number_of_ill_formed(lent: &Lent) -> u64 {
+    Running::cause_of_cells(lent.cells.contents()).unwrap_or(1)
 }
 
 /// Allocates a book, or one that is ill formed if there is none.
-pub fn check_allocation(lent: &mut Lent, book: Option<&Book>, volumes: &[i64], reach: &mut Reach) -> Checked {
-    let allocation = match book {
-        Some(book) => book.allocate(volumes.len()),
-        None => Allocation::refused(1, None),
+pub fn check_allocation(lent: &mut Lent, running: Option<&Running>, volumes: &[i64], reach: &mut Reach) -> Checked {
+    let allocation = match running {
+        Some(running) => running.allocate(volumes.len()),
+        None => Allocation::refused(number_of_ill_formed(lent), None),
     };
     reach.note_number(Entry::Allocate, allocation.answer.number);
-    if let Some(book) = book {
-        note_allocation(reach, &book.contents(), &allocation, volumes.len());
+    if let Some(running) = running {
+        note_allocation(reach, running, &allocation, volumes.len());
     }
-    let before = lent.clone();
+    let after = lent.afterwards(None);
     let mut lent_volumes = Guarded::new(volumes, i64::MIN);
     let given = lent.allocate(lent_volumes.lend());
     same_allocated(&given.answer, &allocation.answer)?;
-    same_settings(&given.settings, &before.settings)?;
-    same_words("rows", lent.rows.contents(), before.rows.contents())?;
-    lent.rows.check_guards("row")?;
+    lent.check(&after)?;
     check_volumes(&lent_volumes, &allocation, volumes)
 }
 
@@ -143,9 +194,9 @@ fn numbers_slices(numbers: &[u64], random: &mut Random) -> (Guarded<u64>, Vec<u6
 }
 
 fn check_list(case: &Case, expected: &Expected, reach: &mut Reach) -> Checked {
-    let mut lent = Lent::fresh(&case.rows);
+    let mut lent = Lent::fresh(&case.rows, &case.cells);
     let random = &mut Random::part(case.seed, 2);
-    check_listed(&mut lent, &case.calls, &expected.numbers, Some(&expected.book), random, reach)
+    check_listed(&mut lent, &case.calls, &expected.numbers, Some(&expected.running), random, reach)
 }
 
 /// Makes a list of calls at once. It must give these numbers, and leave the book, or leave all as it was if there is none.
@@ -153,24 +204,20 @@ pub fn check_listed(
     lent: &mut Lent,
     calls: &[Call],
     numbers: &[u64],
-    book: Option<&Book>,
+    running: Option<&Running>,
     random: &mut Random,
     reach: &mut Reach,
 ) -> Checked {
-    let (settings, rows) = match book {
-        Some(book) => (book.settings(), book.words()),
-        None => (lent.settings, lent.rows.contents().to_vec()),
-    };
+    let after = lent.afterwards(running);
+    note_listed_cells(reach, lent.cells.contents(), numbers);
     let (mut lent_numbers, numbers_after) = numbers_slices(numbers, random);
     let given = lent.make_calls(&list_words(calls, random), lent_numbers.lend());
     note_listed(reach, calls, numbers);
     reach.note_number(Entry::MakeCalls, 0);
     same("number of the list", given, 0)?;
     same_words("numbers", lent_numbers.contents(), &numbers_after)?;
-    same_settings(&lent.settings, &settings)?;
-    same_words("rows", lent.rows.contents(), &rows)?;
     lent_numbers.check_guards("numbers")?;
-    lent.rows.check_guards("row")
+    lent.check(&after)
 }
 
 fn note_listed(reach: &mut Reach, calls: &[Call], numbers: &[u64]) {
@@ -179,27 +226,41 @@ fn note_listed(reach: &mut Reach, calls: &[Call], numbers: &[u64]) {
     }
 }
 
-/// A whole half hour in one call, against what the list means.
+/// A whole half hour in one call; from a slice at 0, against what the list means.
 fn check_settled(case: &Case, expected: &Expected, reach: &mut Reach) -> Checked {
     let random = &mut Random::part(case.seed, 3);
-    let meaning = Meaning::of(capacity(case.rows.len()), &case.calls);
-    check_meaning(&meaning, &expected.book)?;
-    let allocation = allocate(&meaning.contents(), case.volumes.len());
+    let allocation = match case.starts_at_zero() {
+        true => meant_allocation(case, expected)?,
+        false => expected.running.allocate(case.volumes.len()),
+    };
     reach.note_number(Entry::SettleList, allocation.answer.number);
-    note_allocation(reach, &meaning.contents(), &allocation, case.volumes.len());
+    note_allocation(reach, &expected.running, &allocation, case.volumes.len());
 
-    let mut rows = Guarded::new(&case.rows, 5_555_555_555_555);
+    let mut lent = Lent::fresh(&case.rows, &case.cells);
+    let after = lent.afterwards(Some(&expected.running));
     let mut volumes = Guarded::new(&case.volumes, i64::MIN);
     let (mut numbers, numbers_after) = numbers_slices(&expected.numbers, random);
-    let given = cepnhoy::settle_list(rows.lend(), &list_words(&case.calls, random), numbers.lend(), volumes.lend());
+    let given = lent.settle_list(&list_words(&case.calls, random), numbers.lend(), volumes.lend());
     same_allocated(&given.answer, &allocation.answer)?;
-    same_settings(&given.settings, &expected.book.settings())?;
-    same_words("rows", rows.contents(), &expected.book.words())?;
     same_words("numbers", numbers.contents(), &numbers_after)?;
-    rows.check_guards("row")?;
     numbers.check_guards("numbers")?;
+    lent.check(&after)?;
     check_volumes(&volumes, &allocation, &case.volumes)?;
-    check_demand(&meaning, &allocation, volumes.contents())
+    check_shares(expected.running.book.contents().take_wh, &allocation, volumes.contents())
+}
+
+/// What the list means, allocated from its meters without any slice.
+fn meant_allocation(case: &Case, expected: &Expected) -> Result<Allocation, Failure> {
+    let meaning = Meaning::of(capacity(case.rows.len()), &case.calls);
+    check_meaning(&meaning, &expected.running.book)?;
+    let contents = meaning.contents();
+    let allocation = allocate(&contents, Gathered::of_meters(&contents), case.volumes.len());
+    if allocation.workings.is_some() {
+        let answer = &allocation.answer;
+        let counted = answer.actual + answer.estimated + answer.defaulted + answer.idle;
+        same("sum of the counts", counted, meaning.meters.len() as u64)?;
+    }
+    Ok(allocation)
 }
 
 /// The book that the calls left must be the one that the list means.
@@ -224,35 +285,32 @@ fn in_lines(contents: &Contents) -> Vec<String> {
     lines
 }
 
-/// Of an accepted allocation: the volumes add up to the last accepted Take, each is under 1 Wh from its exact share, and the
-/// counts add up to the number of meters.
-fn check_demand(meaning: &Meaning, allocation: &Allocation, volumes: &[i64]) -> Checked {
+/// Of an accepted allocation: the volumes add up to the last accepted Take, and each is under 1 Wh from its exact share.
+fn check_shares(take_wh: Option<i64>, allocation: &Allocation, volumes: &[i64]) -> Checked {
     let Some(workings) = &allocation.workings else {
         return Ok(());
     };
     let total: i64 = volumes[..cepnhoy::UNITS].iter().sum();
-    same("sum of the volumes", total, meaning.take_wh.unwrap_or(0))?;
+    same("sum of the volumes", total, take_wh.unwrap_or(0))?;
     for (unit, (share, volume)) in workings.shares.iter().zip(volumes).enumerate() {
         let above_wh = i128::from(*volume) - share.whole_wh;
         let near = above_wh == 0 || (above_wh == 1 && !share.fraction.is_zero());
         same(&format!("volume of unit {unit} under 1 Wh from its share"), near, true)?;
     }
-    let answer = &allocation.answer;
-    let counted = answer.actual + answer.estimated + answer.defaulted + answer.idle;
-    same("sum of the counts", counted, meaning.meters.len() as u64)
+    Ok(())
 }
 
 /// The list in two parts: the first call by call, the second at once on the book reached.
 fn check_resumed(case: &Case, expected: &Expected, reach: &mut Reach) -> Checked {
     let random = &mut Random::part(case.seed, 4);
     let cut = random.index(case.calls.len() + 1);
-    let mut lent = Lent::fresh(&case.rows);
+    let mut lent = Lent::fresh(&case.rows, &case.cells);
     for call in &case.calls[..cut] {
         lent.make(call);
     }
     reach.note_if(Situation::ListResumed, cut > 0 && cut < case.calls.len());
     let (calls, numbers) = (&case.calls[cut..], &expected.numbers[cut..]);
-    let outcome = check_listed(&mut lent, calls, numbers, Some(&expected.book), random, reach);
+    let outcome = check_listed(&mut lent, calls, numbers, Some(&expected.running), random, reach);
     at(|| format!("make_calls after {cut} calls one by one"), outcome)
 }
 
@@ -269,31 +327,37 @@ fn check_misshapen(case: &Case, reach: &mut Reach) -> Checked {
         call_words.extend(random.words(stray));
         reach.note(Situation::CallsBroken);
     }
+    // A misshapen list is refused before the cells are looked at.
+    let cells = match random.percent(20) {
+        true => short_slice(random),
+        false => case.cells.clone(),
+    };
+    reach.note_if(Situation::MisshapenAndShort, cells.len() < WORDS);
+    let (call_count, cell_count) = (call_words.len(), cells.len());
+    let case = &Case { cells, ..case.clone() };
     at(
-        || format!("a list of {} words and {number_words} numbers", call_words.len()),
+        || format!("a list of {call_count} words and {number_words} numbers, with {cell_count} cells"),
         check_refused_list(case, &call_words, &random.words(number_words), reach),
     )
 }
 
 fn check_refused_list(case: &Case, calls: &[u64], numbers: &[u64], reach: &mut Reach) -> Checked {
-    let mut lent = Lent::fresh(&case.rows);
+    let mut lent = Lent::fresh(&case.rows, &case.cells);
+    let after = lent.afterwards(None);
     let mut lent_numbers = Guarded::new(numbers, u64::MAX);
     let given = lent.make_calls(calls, lent_numbers.lend());
     reach.note_number(Entry::MakeCalls, 19);
     same("number of the list", given, 19)?;
-    same_settings(&lent.settings, &cepnhoy::fresh())?;
-    same_words("rows", lent.rows.contents(), &case.rows)?;
+    lent.check(&after)?;
     same_words("numbers", lent_numbers.contents(), numbers)?;
 
     let mut volumes = Guarded::new(&case.volumes, i64::MIN);
-    let given = cepnhoy::settle_list(lent.rows.lend(), calls, lent_numbers.lend(), volumes.lend());
+    let given = lent.settle_list(calls, lent_numbers.lend(), volumes.lend());
     reach.note_number(Entry::SettleList, 19);
     let refused = Allocation::refused(19, None);
     same_allocated(&given.answer, &refused.answer)?;
-    same_settings(&given.settings, &cepnhoy::fresh())?;
-    same_words("rows", lent.rows.contents(), &case.rows)?;
+    lent.check(&after)?;
     same_words("numbers", lent_numbers.contents(), numbers)?;
     lent_numbers.check_guards("numbers")?;
-    lent.rows.check_guards("row")?;
     check_volumes(&volumes, &refused, &case.volumes)
 }

@@ -1,7 +1,9 @@
-//! Damage to a book: bits flipped, and words and settings that no accepted call could have written.
+//! Damage to a book: bits flipped, words and settings that no accepted call could have written, and cells filled by hand.
 
 use crate::boundaries::TAKE_FLAGS_OUTSIDE;
+use crate::cells::{lengthened, numbers_at, short_slice, sizes_at, within_slice, wrapped_slice};
 use crate::model::ranges::capacity;
+use crate::model::slice::{CELLS, NUMBER_MOST, SIZES_MOST, WORDS};
 use crate::model::words::{reading_of, reading_word, registration_of, registration_word};
 use crate::named::named;
 use crate::random::Random;
@@ -39,6 +41,17 @@ named! {
         TakeOutside => "Take outside its range",
         TakeWithoutFlag => "Take with a value while unset",
         TakeFlagOutside => "Take's flag neither 0 nor 1",
+        CellBit => "a bit of the cell slice flipped",
+        CellsShorter => "cell slice shorter than 836 words",
+        CellsLonger => "cell slice longer by a few words",
+        CellsFilled => "cell slice filled by hand",
+        NumbersZero => "counts and waiting numbers at 0",
+        NumberMost => "a count or waiting number of 4,294,967,295",
+        NumberPast => "a count or waiting number past that",
+        NumberBelow => "a count or waiting number below 0",
+        SizesMost => "cell sizes at their limit",
+        SizesPast => "cell sizes past their limit",
+        SizesWrapped => "cell sizes past 63 bits",
     }
 }
 
@@ -50,8 +63,17 @@ impl DamageKind {
             | DamageKind::BitPastRows
             | DamageKind::SliceLonger
             | DamageKind::MetersOneFewer
-            | DamageKind::NetworkOrTariff => Some(true),
-            DamageKind::SettingsBit | DamageKind::RowBit | DamageKind::SliceShorter | DamageKind::MetersOneMore => None,
+            | DamageKind::NetworkOrTariff
+            | DamageKind::CellsLonger
+            | DamageKind::CellsFilled
+            | DamageKind::NumbersZero
+            | DamageKind::NumberMost
+            | DamageKind::SizesMost => Some(true),
+            DamageKind::SettingsBit
+            | DamageKind::RowBit
+            | DamageKind::SliceShorter
+            | DamageKind::MetersOneMore
+            | DamageKind::CellBit => None,
             _ => Some(false),
         }
     }
@@ -62,25 +84,71 @@ impl DamageKind {
 pub struct Damage {
     pub kind: DamageKind,
     pub seed: u64,
+    /// The cell slice is cut short as well, so that it shows what is looked at first.
+    pub and_short: bool,
 }
 
 impl Damage {
     pub fn random(random: &mut Random) -> Damage {
         let kind = match random.index(3) {
             // Most ways to damage a book by one bit are not thought of beforehand.
-            0 => *random.pick(&[DamageKind::SettingsBit, DamageKind::RowBit]),
+            0 => *random.pick(&[DamageKind::SettingsBit, DamageKind::RowBit, DamageKind::CellBit]),
             _ => *random.pick(DamageKind::ALL),
         };
-        Damage { kind, seed: random.word() }
+        Damage { kind, seed: random.word(), and_short: random.percent(8) }
     }
 
     /// Damages the book, or gives false if this book has nothing that could be damaged so.
-    pub fn apply(&self, settings: &mut Settings, rows: &mut Vec<u64>) -> bool {
+    pub fn apply(&self, settings: &mut Settings, rows: &mut Vec<u64>, cells: &mut Vec<i64>) -> bool {
         let random = &mut Random::new(self.seed);
-        damage_length(self.kind, rows, random)
+        damage_cells(self.kind, cells, random)
+            || damage_length(self.kind, rows, random)
             || damage_settings(self.kind, settings, rows.len(), random)
             || damage_rows(self.kind, settings.meters, rows, random)
     }
+}
+
+fn damage_cells(kind: DamageKind, cells: &mut Vec<i64>, random: &mut Random) -> bool {
+    let most = NUMBER_MOST as i64;
+    let damaged = match kind {
+        DamageKind::CellBit => {
+            let place = random.index(cells.len());
+            // Mostly one of the lower bits, so that some slices stay within their limits.
+            let (any, lower) = (random.index(64), random.index(33));
+            cells[place] ^= 1 << *random.pick(&[any, lower]);
+            return true;
+        }
+        DamageKind::CellsShorter => cells[..random.index(WORDS)].to_vec(),
+        DamageKind::CellsLonger => {
+            let more = 1 + random.index(9);
+            [&cells[..], &random.signed_words(more)].concat()
+        }
+        DamageKind::CellsFilled => lengthened(within_slice(random), random),
+        DamageKind::NumbersZero => [&cells[..CELLS], &[0; WORDS - CELLS]].concat(),
+        DamageKind::NumberMost => numbers_at(cells.clone(), most, random),
+        DamageKind::NumberPast => {
+            let number = *random.pick(&[most + 1, most + 1, 1 << 33, i64::MAX]);
+            numbers_at(cells.clone(), number, random)
+        }
+        DamageKind::NumberBelow => {
+            let number = *random.pick(&[-1, -1, -(1 << 32), i64::MIN]);
+            numbers_at(cells.clone(), number, random)
+        }
+        DamageKind::SizesMost => sizes_at(SIZES_MOST, random),
+        DamageKind::SizesPast => {
+            let past = *random.pick(&[1, 1, 2, 1_000, 1_000_000_000_000_000]);
+            sizes_at(SIZES_MOST + past, random)
+        }
+        DamageKind::SizesWrapped => wrapped_slice(random),
+        _ => return false,
+    };
+    *cells = damaged;
+    true
+}
+
+/// What is left of a slice that is cut short.
+pub fn cut_short(seed: u64) -> Vec<i64> {
+    short_slice(&mut Random::part(seed, 2))
 }
 
 fn damage_length(kind: DamageKind, rows: &mut Vec<u64>, random: &mut Random) -> bool {

@@ -4,9 +4,9 @@ use crate::call::Call;
 use crate::compare::{at, same, same_words, Checked};
 use crate::lent::Lent;
 use crate::model::allocation::Sums;
-use crate::model::cells::{is_loss, Cells};
-use crate::model::droppings::{dropped_by_direction, dropped_thousandths, Metered};
-use crate::model::Book;
+use crate::model::cells::{energies_of, is_loss, Cells};
+use crate::model::droppings::{dropped_by_direction, dropped_thousandths, metered_by_unit, Metered};
+use crate::model::{Book, Running};
 use crate::reach::Reach;
 use crate::situation::Situation;
 use cepnhoy::{Allocated, UNITS};
@@ -18,8 +18,8 @@ const DROPPINGS_MOST: i64 = 6_000;
 pub fn note_droppings(reach: &mut Reach, sums: &Sums, number: u64) {
     match number {
         0 => {
-            note_cells(reach, &sums.cells);
-            note_units(reach, &sums.cells);
+            note_cells(reach, &sums.gathered.cells);
+            note_units(reach, &sums.gathered.cells);
         }
         10 => reach.note_if(Situation::DroppingsWeightedRefused, sums.droppings() != [0; UNITS]),
         11 => reach.note_if(Situation::DroppingsToleranceRefused, sums.droppings() != [0; UNITS]),
@@ -55,7 +55,7 @@ fn note_units(reach: &mut Reach, cells: &Cells) {
 /// Reconciles a book's losses from what the library answers, with nothing rounded here: the Take is set to what the units come to
 /// by themselves, so that U is 0 and a volume is the unit's energy with its rounded losses.
 pub fn check_reconciled(book: &Book, reach: &mut Reach) -> Checked {
-    let mut lent = Lent::new(book.settings(), &book.words());
+    let mut lent = Lent::of(&Running::of(book.clone()));
     let mut volumes = [0; UNITS];
     let before = lent.allocate(&mut volumes).answer;
     if before.number != 0 {
@@ -68,7 +68,8 @@ pub fn check_reconciled(book: &Book, reach: &mut Reach) -> Checked {
     }
     let after = lent.allocate(&mut volumes).answer;
     reach.note_if(Situation::DroppingsReconciled, after.droppings != [0; UNITS]);
-    let metered = Sums::of(&book.contents()).metered;
+    let contents = book.contents();
+    let metered = metered_by_unit(&contents, &energies_of(&contents));
     at(|| format!("reconciled with {take}"), check_answers(&before, &after, &metered, &volumes))
 }
 

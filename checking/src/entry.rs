@@ -52,17 +52,17 @@ impl Entry {
         }
     }
 
-    /// The numbers that it can give. A list is refused only for its shape; settling starts from a fresh book, which is well formed.
+    /// The numbers that it can give. A list is refused only for its shape; settling starts from fresh settings, and 1 is for its cells.
     pub fn reachable(self) -> &'static [u64] {
         match self {
-            Entry::Register | Entry::ListedRegister => &[0, 1, 2, 6],
-            Entry::Reading | Entry::ListedReading => &[0, 1, 2, 3, 4, 5],
-            Entry::Allocate => &[0, 1, 7, 8, 9, 10, 11],
+            Entry::Register | Entry::ListedRegister => &[0, 1, 2, 6, 13],
+            Entry::Reading | Entry::ListedReading => &[0, 1, 2, 3, 4, 5, 13],
+            Entry::Allocate => &[0, 1, 7, 8, 9, 10, 11, 13],
             Entry::Totals => &[0, 1, 2, 9, 12],
             Entry::MakeCalls => &[0, 19],
-            Entry::SettleList => &[0, 7, 8, 9, 10, 11, 19],
-            Entry::ListedUnknown => &[1, 2],
-            _ => &[0, 1, 2],
+            Entry::SettleList => &[0, 1, 7, 8, 9, 10, 11, 13, 19],
+            Entry::ListedUnknown => &[1, 2, 13],
+            _ => &[0, 1, 2, 13],
         }
     }
 }

@@ -7,13 +7,14 @@ use crate::compare::{at, Checked};
 use crate::droppings::check_reconciled;
 use crate::lent::Lent;
 use crate::model::ranges::METERS_MOST;
-use crate::model::Book;
+use crate::model::slice::{sizes, SIZES_MOST, WORDS};
+use crate::model::Running;
 use crate::moved::check_moved;
 use crate::random::Random;
 use crate::reach::Reach;
 use crate::situation::Situation;
 use crate::totals::{check_sums, check_totals, random_asked};
-use cepnhoy::{Reading, Registration, CLASSES, ROW_WORDS};
+use cepnhoy::{Reading, Registration, CLASSES, ROW_WORDS, SHAPE_MISSING};
 
 /// How many new rows the library gathers before it merges them (`two_parts::LATER_MAX`).
 const GATHERED_MOST: usize = 512;
@@ -81,7 +82,42 @@ fn mpans(count: usize, random: &mut Random) -> Vec<u64> {
     mpans
 }
 
-/// One meter more than there is room for, all with readings, and a few late or repeated ones.
+/// The most that a shape may be, for every category.
+fn first_shapes() -> impl Iterator<Item = Call> {
+    (0..64).map(|category| Call::Shape { category, wh: 10_000_000 })
+}
+
+/// Puts shapes between the other calls, while meters wait in either part of the rows, and the first ones again at the end.
+fn add_shapes(calls: &mut Vec<Call>, random: &mut Random) {
+    for _ in 0..8 {
+        let any = random.below(10_000_001);
+        let call = Call::Shape { category: random.below(64), wh: *random.pick(&[any, any, SHAPE_MISSING]) };
+        let place = random.index(calls.len() + 1);
+        calls.insert(place, call);
+    }
+    calls.extend(first_shapes());
+}
+
+/// The categories in which the meters of the first and the last row wait.
+const ENDS: [u64; 2] = [0, 63];
+
+/// Another shape for the meters of the first and the last row.
+fn shapes_of_ends(random: &mut Random) -> Vec<Call> {
+    ENDS.map(|category| Call::Shape { category, wh: random.below(10_000_000) }).to_vec()
+}
+
+/// The meters of the first and the last row wait for a reading at the end, so that a shape call shows that leaves out a row at either
+/// end: no reading of theirs stays in the list, and they are registered once more.
+fn add_waiting(calls: &mut Vec<Call>, mpans: &[u64], load: Load, random: &mut Random) {
+    let ends = [mpans.iter().min(), mpans.iter().max()].map(|mpan| *mpan.expect("a large book has meters"));
+    calls.retain(|call| !matches!(call, Call::Reading { mpan, .. } if ends.contains(mpan)));
+    for (mpan, category) in ends.into_iter().zip(ENDS) {
+        let registration = Registration { status: 2, category, ..registration(load, random) };
+        calls.push(Call::Register { mpan, registration });
+    }
+}
+
+/// One meter more than there is room for, most with readings, and a few late or repeated ones.
 fn large_case(row_words: usize, load: Load, random: &mut Random) -> Case {
     let room = (row_words / ROW_WORDS).min(METERS_MOST);
     let mpans = mpans(room + 1, random);
@@ -94,14 +130,22 @@ fn large_case(row_words: usize, load: Load, random: &mut Random) -> Case {
             },
         })
         .collect();
-    calls.extend((0..64).map(|category| Call::Shape { category, wh: 10_000_000 }));
+    calls.extend(first_shapes());
     calls.extend(mpans.iter().map(|&mpan| Call::Register { mpan, registration: registration(load, random) }));
     for _ in 0..room + room / 8 {
         calls.push(Call::Reading { mpan: *random.pick(&mpans), reading: reading(load, random) });
     }
+    add_waiting(&mut calls, &mpans[..room], load, random);
+    add_shapes(&mut calls, random);
+    if let Load::Mixed = load {
+        // Not of a book with the most energy, whose sizes are to end at their limit.
+        calls.extend(shapes_of_ends(random));
+    }
     // With every weight at 1,000 the tolerance allows U from -n to n, so that any Take from 0 on is accepted.
     calls.push(Call::Take { wh: random.between_signed(0, 5_000_000_000) });
-    Case { rows: random.words(row_words), calls, volumes: random.signed_words(33), seed: random.word() }
+    let mut cells = vec![0; WORDS];
+    cells.extend(random.signed_words(3));
+    Case { rows: random.words(row_words), cells, calls, volumes: random.signed_words(33), seed: random.word() }
 }
 
 /// Full books: one as large as a book can be, in a slice that just fits it and in a longer one, and one that is a meter smaller; and
@@ -119,34 +163,55 @@ pub fn large_cases(random: &mut Random) -> Vec<Case> {
 
 /// Checks a case made as one list, and with its readings moved; then some of its calls again, one by one, on the book reached.
 pub fn check_large(case: &Case, reach: &mut Reach) -> Checked {
-    let expected = Expected::of(case);
+    let expected = Expected::at_once(case);
     note_capacity(reach, &expected, case.rows.len());
+    note_sizes(reach, &expected.running);
+    note_shapes(reach, &case.calls);
     check_lists(case, &expected, reach)?;
     check_moved(case, reach)?;
-    check_reconciled(&expected.book, reach)?;
-    check_calls_again(case, expected.book, reach)
+    check_reconciled(&expected.running.book, reach)?;
+    check_calls_again(case, expected.running, reach)
+}
+
+/// A full book with the most energy and the most losses stands at the limit of the sizes.
+fn note_sizes(reach: &mut Reach, running: &Running) {
+    reach.note_if(Situation::SizesMostByCalls, sizes(&running.cells) == SIZES_MOST);
+}
+
+/// Notes a shape among the registrations, when new rows have been merged and others have not.
+fn note_shapes(reach: &mut Reach, calls: &[Call]) {
+    let mut registered = 0;
+    for (call, next) in calls.iter().zip(calls.iter().skip(1)) {
+        registered += usize::from(matches!(call, Call::Register { .. }));
+        let between = matches!((call, next), (Call::Shape { .. }, Call::Register { .. }));
+        reach.note_if(Situation::ShapeBehindMerge, between && registered > GATHERED_MOST);
+    }
 }
 
 fn note_capacity(reach: &mut Reach, expected: &Expected, row_words: usize) {
     let most = ROW_WORDS * METERS_MOST;
-    let met_no_room = expected.book.is_full() && expected.numbers.contains(&6);
+    let met_no_room = expected.running.book.is_full() && expected.numbers.contains(&6);
     reach.note_if(Situation::CapacityJustBelowMost, met_no_room && row_words == most - 1);
     reach.note_if(Situation::CapacityMost, met_no_room && row_words == most);
     reach.note_if(Situation::SlicePastCapacity, met_no_room && row_words > most);
 }
 
-fn check_calls_again(case: &Case, mut book: Book, reach: &mut Reach) -> Checked {
+fn check_calls_again(case: &Case, mut running: Running, reach: &mut Reach) -> Checked {
     let random = &mut Random::part(case.seed, 7);
-    let mut lent = Lent::new(book.settings(), &book.words());
-    for _ in 0..case.calls.len().min(20) {
-        let call = random.pick(&case.calls);
-        let number = book.make(call);
-        at(|| format!("after the list, {call}"), check_call(&mut lent, call, number, Some(&book)))?;
+    let mut lent = Lent::of(&running);
+    let mut calls: Vec<Call> = (0..case.calls.len().min(20)).map(|_| *random.pick(&case.calls)).collect();
+    // Most meters that are without a reading wait in some category or other.
+    calls.push(Call::Shape { category: random.below(64), wh: random.below(10_000_001) });
+    calls.extend(shapes_of_ends(random));
+    for call in &calls {
+        let number = running.make(call);
+        at(|| format!("after the list, {call}"), check_call(&mut lent, call, number, Some(&running)))?;
     }
-    check_allocation(&mut lent, Some(&book), &case.volumes, reach)?;
+    check_allocation(&mut lent, Some(&running), &case.volumes, reach)?;
+    let book = &running.book;
     for _ in 0..8 {
         let asked = random_asked(&book.contents(), random);
-        at(|| format!("{asked}"), check_totals(&mut lent, Some(&book), &asked, random, reach))?;
+        at(|| format!("{asked}"), check_totals(&mut lent, Some(book), &asked, random, reach))?;
     }
-    check_sums(&mut lent, &book, reach)
+    check_sums(&mut lent, book, reach)
 }

@@ -3,6 +3,7 @@
 pub mod books;
 pub mod boundaries;
 pub mod call;
+pub mod cells;
 pub mod check;
 pub mod compare;
 pub mod damage;

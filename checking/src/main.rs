@@ -7,7 +7,7 @@ use std::process::ExitCode;
 use checking::compare::Failure;
 use checking::figures::check_figures;
 use checking::reach::Reach;
-use checking::run::{check_book, check_large_books};
+use checking::run::{check_book, check_large_books, check_lengths};
 use checking::settle::drive::{check_settle, Runs};
 
 const USAGE: &str = "\
@@ -109,11 +109,12 @@ fn check_all(options: &Options) -> Result<(), Failure> {
 fn check_books(options: &Options) -> Result<(), Failure> {
     // What the figures meet does not count: the random books must meet it all themselves.
     let figures = check_figures(&mut Reach::default())?;
-    println!("document 01, E2 and E6, droppings, and totals worked by hand: {figures} figures agree");
+    println!("document 01, E2 and E6, droppings, running cells, and totals worked by hand: {figures} figures agree");
     let reach = &mut Reach::default();
     for index in 0..options.books {
         check_book(options.seed, index, reach)?;
     }
+    check_lengths(options.seed, reach)?;
     check_large_books(options.seed, reach)?;
     if !options.quiet {
         println!("\n{}", reach.table());

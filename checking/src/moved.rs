@@ -6,6 +6,7 @@ use crate::call::{list_words, Call};
 use crate::check::Case;
 use crate::compare::{at, same_allocated, same_settings, same_words, Checked};
 use crate::model::ranges::{call_in_range, capacity};
+use crate::model::slice::WORDS;
 use crate::model::Meaning;
 use crate::random::Random;
 use crate::reach::Reach;
@@ -70,13 +71,21 @@ fn keep_order_of_equals(calls: &[Call], moved: &mut [Call]) {
     }
 }
 
-fn settle(rows: &[u64], calls: &[Call], random: &mut Random) -> (AllocationAnswer, Vec<i64>) {
+/// What a settled list leaves and gives, from a slice at 0.
+struct Settled {
+    answer: AllocationAnswer,
+    cells: Vec<i64>,
+    volumes: Vec<i64>,
+}
+
+fn settle(rows: &[u64], calls: &[Call], random: &mut Random) -> Settled {
     let mut rows = rows.to_vec();
+    let mut cells = vec![0; WORDS];
     let mut numbers = vec![0; calls.len()];
     let mut volumes = vec![0; cepnhoy::UNITS];
     let call_words = list_words(calls, random);
-    let answer = cepnhoy::settle_list(&mut rows, &call_words, &mut numbers, &mut volumes);
-    (answer, volumes)
+    let answer = cepnhoy::settle_list(&mut rows, &mut cells, &call_words, &mut numbers, &mut volumes);
+    Settled { answer, cells, volumes }
 }
 
 /// Settles a list and the same with its readings moved, on slices of equal lengths and other words.
@@ -90,13 +99,14 @@ pub fn check_moved(case: &Case, reach: &mut Reach) -> Checked {
         "the mover keeps what the list means"
     );
     let other_rows = random.words(case.rows.len());
-    let (before, volumes_before) = settle(&case.rows, &case.calls, random);
-    let (after, volumes_after) = settle(&other_rows, &moved, random);
-    let accepted = before.answer.number == 0;
+    let before = settle(&case.rows, &case.calls, random);
+    let after = settle(&other_rows, &moved, random);
+    let accepted = before.answer.answer.number == 0;
     reach.note_if(Situation::MovedAccepted, accepted && moved != case.calls);
-    let outcome = same_allocated(&after.answer, &before.answer)
-        .and_then(|()| same_settings(&after.settings, &before.settings))
-        .and_then(|()| same_words("volumes", &volumes_after, &volumes_before));
+    let outcome = same_allocated(&after.answer.answer, &before.answer.answer)
+        .and_then(|()| same_settings(&after.answer.settings, &before.answer.settings))
+        .and_then(|()| same_words("cells", &after.cells, &before.cells))
+        .and_then(|()| same_words("volumes", &after.volumes, &before.volumes));
     at(|| in_words(&moved), outcome)
 }
 

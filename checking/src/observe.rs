@@ -1,19 +1,26 @@
 //! Which situations a call or an allocation met, seen from the second method's side.
 
 use crate::call::Call;
+use crate::cells::note_filled;
 use crate::droppings::note_droppings;
-use crate::model::allocation::{order_served, Allocation, Sums, Workings};
+use crate::model::allocation::{order_served, passes_tolerance, Allocation, Gathered, Sums, Workings};
 use crate::model::book::shape_held;
-use crate::model::cells::{cell_of, loss_thousandths, nearest_wh, Cells, Contents, Energy};
-use crate::model::Book;
+use crate::model::cells::{cell_of, energies_of, is_loss, loss_thousandths, nearest_wh, Cells, Contents, Energy};
+use crate::model::running::Attempt;
+use crate::model::{Book, Running};
 use crate::reach::Reach;
 use crate::situation::Situation;
 use cepnhoy::{Reading, Registration, UNITS};
 
 /// Notes a call on a well-formed book, given the book before it.
-pub fn note_call(reach: &mut Reach, before: &Book, call: &Call, number: u64) {
+pub fn note_call(reach: &mut Reach, before: &Running, call: &Call, attempt: &Attempt) {
+    reach.note_causes(&attempt.causes);
+    if !before.is_formed() {
+        // The number says nothing of the arguments.
+        return;
+    }
+    let (before, number) = (&before.book, attempt.number());
     reach.note_boundaries(&call.arguments());
-    reach.note_causes(&before.causes(call));
     match *call {
         Call::Register { mpan, registration } => {
             let known = before.meter(mpan).is_some();
@@ -72,8 +79,13 @@ pub fn note_list(reach: &mut Reach, calls: &[Call], numbers: &[u64], book: &Book
     reach.note_if(Situation::RowSliceTwoOver, words > 2 && words % 3 == 2 && book.is_full());
 }
 
-/// Notes an allocation of a well-formed book.
-pub fn note_allocation(reach: &mut Reach, contents: &Contents, allocation: &Allocation, volume_words: usize) {
+/// Notes an allocation of a well-formed book, with whatever slice it was lent.
+pub fn note_allocation(reach: &mut Reach, running: &Running, allocation: &Allocation, volume_words: usize) {
+    let contents = &running.book.contents();
+    reach.note_causes(&allocation_causes(running, contents, volume_words));
+    if !running.is_formed() {
+        return;
+    }
     match volume_words {
         0 => reach.note(Situation::VolumeWords0),
         31 => reach.note(Situation::VolumeWords31),
@@ -82,38 +94,53 @@ pub fn note_allocation(reach: &mut Reach, contents: &Contents, allocation: &Allo
         40 => reach.note(Situation::VolumeWords40),
         _ => {}
     }
-    reach.note_causes(&allocation_causes(contents, volume_words));
+    if !running.is_sum() {
+        note_filled(reach, running, allocation);
+        return;
+    }
     if let Some(sums) = &allocation.sums {
         note_sums(reach, contents, sums, allocation.answer.number);
         note_droppings(reach, sums, allocation.answer.number);
     }
     if let (Some(sums), Some(workings)) = (&allocation.sums, &allocation.workings) {
-        note_meters(reach, contents, sums);
-        note_losses(reach, contents, sums);
+        note_meters(reach, contents);
+        note_losses(reach, contents, &sums.gathered.cells);
         note_shares(reach, sums, workings);
         note_take(reach, contents);
     }
 }
 
-/// All causes from 7 to 10 that apply to an allocation, a missing shape taken as 0 Wh for the last.
-fn allocation_causes(contents: &Contents, volume_words: usize) -> Vec<u64> {
-    let sums = Sums::of(contents);
-    let causes =
-        [(7, volume_words < UNITS), (8, contents.take_wh.is_none()), (9, sums.lacks_shape()), (10, sums.weighted < 1)];
+/// All causes that apply to an allocation. Those from 9 on are of the slice; of one that is short or passes a limit, as if it were what
+/// the meters come to.
+fn allocation_causes(running: &Running, contents: &Contents, volume_words: usize) -> Vec<u64> {
+    let first = Running::cause_of_cells(&running.cells);
+    let gathered = match first {
+        None => Gathered::of_slice(&running.cells, &contents.shapes),
+        Some(_) => Gathered::of_meters(contents),
+    };
+    let sums = Sums::of(gathered, &contents.weights);
+    let passes = |take_wh: i64| passes_tolerance(i128::from(take_wh) - sums.net_wh, sums.weighted, contents.tolerance);
+    let causes = [
+        (7, volume_words < UNITS),
+        (8, contents.take_wh.is_none()),
+        (9, sums.gathered.lacks_shape),
+        (10, sums.weighted < 1),
+        (11, sums.weighted >= 1 && contents.take_wh.is_some_and(passes)),
+    ];
     let applying = causes.into_iter().filter(|(_, applies)| *applies);
-    applying.map(|(number, _)| number).collect()
+    first.into_iter().chain(applying.map(|(number, _)| number)).collect()
 }
 
-/// Notes a call on a book that isn't well formed, as if it were well formed and empty.
-pub fn note_call_on_ill_formed(reach: &mut Reach, call: &Call) {
+/// Notes a call on a book that isn't well formed, as if it were well formed and empty, with the number given.
+pub fn note_call_on_ill_formed(reach: &mut Reach, call: &Call, number: u64) {
     let mut causes = Book::fresh(Vec::new()).causes(call);
-    causes.push(1);
+    causes.extend([1, number]);
     reach.note_causes(&causes);
 }
 
 fn note_sums(reach: &mut Reach, contents: &Contents, sums: &Sums, number: u64) {
     reach.note_if(Situation::WeightedBelowZero, number == 10 && sums.weighted < 0);
-    reach.note_if(Situation::WeightedZero, number == 10 && sums.weighted == 0 && !sums.cells.is_empty());
+    reach.note_if(Situation::WeightedZero, number == 10 && sums.weighted == 0 && !sums.gathered.cells.is_empty());
     reach.note_if(Situation::WeightedOne, number == 0 && sums.weighted == 1);
     let Some(take_wh) = contents.take_wh else {
         return;
@@ -124,8 +151,8 @@ fn note_sums(reach: &mut Reach, contents: &Contents, sums: &Sums, number: u64) {
     reach.note_if(Situation::TolerancePassed, number == 11 && (unallocated - 1) * 1_000_000 <= most);
 }
 
-fn note_meters(reach: &mut Reach, contents: &Contents, sums: &Sums) {
-    for ((registration, reading), &energy) in contents.meters.iter().zip(&sums.energies) {
+fn note_meters(reach: &mut Reach, contents: &Contents) {
+    for ((registration, reading), energy) in contents.meters.iter().zip(energies_of(contents)) {
         let quality = reading.map(|reading| reading.quality);
         let actual = matches!(energy, Energy::Actual(_));
         let estimated = matches!(energy, Energy::Estimated(_));
@@ -149,9 +176,9 @@ fn note_meters(reach: &mut Reach, contents: &Contents, sums: &Sums) {
     }
 }
 
-fn note_losses(reach: &mut Reach, contents: &Contents, sums: &Sums) {
-    let rounded_each = losses_rounded_each(contents, sums);
-    let losses = sums.cells.iter().filter(|((_, class), _)| class % 2 == 1);
+fn note_losses(reach: &mut Reach, contents: &Contents, cells: &Cells) {
+    let rounded_each = losses_rounded_each(contents);
+    let losses = cells.iter().filter(|((_, class), _)| is_loss(*class));
     for (cell, &thousandths) in losses {
         reach.note_if(Situation::LossNegative, thousandths < 0);
         reach.note_if(Situation::LossRoundedOnce, rounded_each.get(cell) != Some(&nearest_wh(thousandths)));
@@ -159,10 +186,10 @@ fn note_losses(reach: &mut Reach, contents: &Contents, sums: &Sums) {
 }
 
 /// The loss cells as they would be if each meter's loss were rounded by itself.
-fn losses_rounded_each(contents: &Contents, sums: &Sums) -> Cells {
+fn losses_rounded_each(contents: &Contents) -> Cells {
     let mut cells = Cells::new();
-    for ((registration, _), energy) in contents.meters.iter().zip(&sums.energies) {
-        if let Some((unit, class, wh)) = cell_of(registration, *energy) {
+    for ((registration, _), energy) in contents.meters.iter().zip(energies_of(contents)) {
+        if let Some((unit, class, wh)) = cell_of(registration, energy) {
             let loss_wh = nearest_wh(loss_thousandths(registration, wh));
             *cells.entry((unit, class + 1)).or_default() += loss_wh;
         }
@@ -170,7 +197,7 @@ fn losses_rounded_each(contents: &Contents, sums: &Sums) -> Cells {
     cells
 }
 
-fn note_shares(reach: &mut Reach, sums: &Sums, workings: &Workings) {
+pub fn note_shares(reach: &mut Reach, sums: &Sums, workings: &Workings) {
     let lacking = workings.lacking_wh;
     reach.note_if(Situation::LackingSome, lacking > 0);
     reach.note_if(Situation::LackingMany, lacking >= 8);

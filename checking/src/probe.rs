@@ -1,50 +1,79 @@
-//! Single calls on damaged books: number, settings, rows, volumes and totals, all words of them.
+//! Single calls on damaged books: number, settings, rows, cells, volumes and totals, all words of them.
 
 use crate::books::random_call_on;
 use crate::call::Call;
-use crate::check::{check_allocation, check_call, check_listed};
+use crate::cells::{cells_in_words, note_lent};
+use crate::check::{check_allocation, check_call, check_listed, check_single, number_of_ill_formed};
 use crate::compare::{at, settings_in_words, Checked, Failure};
-use crate::damage::{Damage, DamageKind};
+use crate::damage::{cut_short, Damage, DamageKind};
 use crate::entry::Entry;
 use crate::lent::Lent;
+use crate::model::slice::WORDS;
 use crate::model::totals::totals_causes;
-use crate::model::Book;
-use crate::observe::{note_call, note_call_on_ill_formed};
+use crate::model::{Book, Running};
+use crate::observe::note_call_on_ill_formed;
 use crate::random::Random;
 use crate::reach::Reach;
 use crate::totals::{check_totals, random_asked};
-use cepnhoy::{ROW_WORDS, UNITS};
+use cepnhoy::{Settings, ROW_WORDS, TOLERANCE_MAX, UNITS};
 
 /// Damages a book that calls reached, if it has something that can be damaged so, and makes each of the eight calls on it, and a
 /// short list of calls.
 pub fn check_damaged(book: &Book, damage: &Damage, reach: &mut Reach) -> Checked {
     let mut settings = book.settings();
     let mut rows = book.words();
-    if !damage.apply(&mut settings, &mut rows) {
+    let mut cells = Running::of(book.clone()).cells;
+    if !damage.apply(&mut settings, &mut rows, &mut cells) {
         return Ok(());
     }
-    let lent = Lent::new(settings, &rows);
     let damaged = Book::read(&settings, &rows);
-    reach.note_damage(damage.kind, damaged.is_none());
-    if damage.kind.leaves_well_formed().is_some_and(|well_formed| well_formed != damaged.is_some()) {
-        let taken_for = if damaged.is_some() { "well formed" } else { "ill formed" };
+    let well_formed = damaged.is_some() && Running::cause_of_cells(&cells).is_none();
+    reach.note_damage(damage.kind, !well_formed);
+    if damage.kind.leaves_well_formed().is_some_and(|wanted| wanted != well_formed) {
+        let taken_for = if well_formed { "well formed" } else { "ill formed" };
         return Err(Failure(format!("{}: the model takes the book for {taken_for}", damage.kind.words())));
     }
+    if damage.and_short {
+        cells = cut_short(damage.seed);
+    }
+    note_lent(reach, &cells, u64::from(!well_formed));
+    let lent = Lent::new(settings, &rows, &cells);
+    let damaged = damaged.map(|book| Running { book, cells: cells.clone() });
     if damage.kind == DamageKind::TakeFlagOutside {
         reach.note_take_flag(&settings);
     }
-    let probes = Probes { lent, book: damaged, undamaged: book };
+    let probes = Probes { lent, running: damaged, undamaged: book };
     let place = || {
         let used = ROW_WORDS * book.mpans().len();
         format!(
-            "after damage ({}), settings {}, used rows {:?}, row slice of {} words",
+            "after damage ({}), settings {}, used rows {:?}, row slice of {} words, {}",
             damage.kind.words(),
             settings_in_words(&settings),
             &rows[..used.min(rows.len())],
-            rows.len()
+            rows.len(),
+            cells_in_words(&cells)
         )
     };
     at(place, probes.check(damage.seed, reach))
+}
+
+/// Makes each of the eight calls and a short list with a cell slice of this length: on the book, and on one that isn't well formed, with
+/// words that need not be within their limits.
+pub fn check_length(book: &Book, words: usize, random: &mut Random, reach: &mut Reach) -> Checked {
+    let cut = |mut cells: Vec<i64>, random: &mut Random| {
+        cells.extend(random.signed_words(words.saturating_sub(WORDS)));
+        cells.truncate(words);
+        cells
+    };
+    let Running { book, cells } = Running::of(book.clone());
+    let (settings, rows, cells) = (book.settings(), book.words(), cut(cells, random));
+    let lent = Lent::new(settings, &rows, &cells);
+    let well_formed = Probes { lent, running: Some(Running { book: book.clone(), cells }), undamaged: &book };
+    at(|| String::from("on a well-formed book"), well_formed.check(random.word(), reach))?;
+    let any = random.signed_words(WORDS);
+    let settings = Settings { tolerance: TOLERANCE_MAX as u32 + 1, ..settings };
+    let ill_formed = Probes { lent: Lent::new(settings, &rows, &cut(any, random)), running: None, undamaged: &book };
+    at(|| String::from("with a tolerance of 1,001"), ill_formed.check(random.word(), reach))
 }
 
 /// The entry points that write a book.
@@ -54,7 +83,8 @@ const WRITING: [Entry; 6] =
 /// Calls on one book, each on a copy of its own.
 struct Probes<'a> {
     lent: Lent,
-    book: Option<Book>,
+    /// None if the settings or the rows are such as no accepted call could have written; the cells may be any.
+    running: Option<Running>,
     undamaged: &'a Book,
 }
 
@@ -72,46 +102,42 @@ impl Probes<'_> {
     }
 
     fn check_call(&self, entry: Entry, call: &Call, reach: &mut Reach) -> Checked {
-        let mut book = self.book.clone();
-        let number = match &mut book {
-            Some(book) => {
-                note_call(reach, book, call, book.number(call));
-                book.make(call)
-            }
-            None => {
-                note_call_on_ill_formed(reach, call);
-                1
-            }
-        };
-        reach.note_number(entry, number);
         reach.damaged_calls += 1;
-        check_call(&mut self.lent.clone(), call, number, book.as_ref())
+        let mut lent = self.lent.clone();
+        if let Some(running) = &self.running {
+            return check_single(&mut lent, &mut running.clone(), entry, call, reach);
+        }
+        let number = number_of_ill_formed(&lent);
+        note_call_on_ill_formed(reach, call, number);
+        reach.note_number(entry, number);
+        check_call(&mut lent, call, number, None)
     }
 
     fn check_allocation(&self, random: &mut Random, reach: &mut Reach) -> Checked {
         let volume_words = *random.pick(&[0, 31, 32, 32, 33, 35, 40]);
         let volumes = random.signed_words(volume_words);
         reach.damaged_calls += 1;
-        if self.book.is_none() && volume_words < UNITS {
+        if self.running.is_none() && volume_words < UNITS {
             reach.note_causes(&[1, 7]);
         }
         at(
             || format!("allocate with {volume_words} volume words"),
-            check_allocation(&mut self.lent.clone(), self.book.as_ref(), &volumes, reach),
+            check_allocation(&mut self.lent.clone(), self.running.as_ref(), &volumes, reach),
         )
     }
 
     fn check_totals(&self, random: &mut Random, reach: &mut Reach) -> Checked {
-        let contents = self.book.as_ref().unwrap_or(self.undamaged).contents();
+        let book = self.running.as_ref().map(|running| &running.book);
+        let contents = book.unwrap_or(self.undamaged).contents();
         let asked = random_asked(&contents, random);
         reach.damaged_calls += 1;
-        if self.book.is_none() {
+        if book.is_none() {
             // As if the other causes stood as before the damage.
             let mut causes = totals_causes(&contents, &asked);
             causes.push(1);
             reach.totals.note_causes(&causes);
         }
-        let outcome = check_totals(&mut self.lent.clone(), self.book.as_ref(), &asked, random, reach);
+        let outcome = check_totals(&mut self.lent.clone(), book, &asked, random, reach);
         at(|| format!("{asked}"), outcome)
     }
 
@@ -121,14 +147,15 @@ impl Probes<'_> {
         if random.percent(20) {
             calls.push(Call::Unknown { kind: 0 });
         }
-        let mut book = self.book.clone();
-        let number = |call: &Call| book.as_mut().map_or(1, |book| book.make(call));
+        let mut running = self.running.clone();
+        let mut lent = self.lent.clone();
+        let ill_formed = number_of_ill_formed(&lent);
+        let number = |call: &Call| running.as_mut().map_or(ill_formed, |running| running.make(call));
         let numbers: Vec<u64> = calls.iter().map(number).collect();
         reach.damaged_calls += 1;
-        let mut lent = self.lent.clone();
         at(
             || format!("make_calls of {} calls", calls.len()),
-            check_listed(&mut lent, &calls, &numbers, book.as_ref(), random, reach),
+            check_listed(&mut lent, &calls, &numbers, running.as_ref(), random, reach),
         )
     }
 }

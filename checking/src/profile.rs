@@ -157,7 +157,7 @@ impl Profile {
         }
     }
 
-    fn reading(&self, random: &mut Random) -> Reading {
+    pub fn reading(&self, random: &mut Random) -> Reading {
         let issue = random.between(1, self.issue_most);
         let wh = self.energies.wh(random);
         let choices = if self.alike.is_some() { 11 } else { 20 };
@@ -172,7 +172,7 @@ impl Profile {
     }
 
     /// A shape, which in so many of a hundred cases is set to missing.
-    fn shape_wh(&self, missing_percent: u64, random: &mut Random) -> u64 {
+    pub fn shape_wh(&self, missing_percent: u64, random: &mut Random) -> u64 {
         match random.percent(missing_percent) {
             true => 4_294_967_295,
             false => self.energies.wh(random),

@@ -4,6 +4,7 @@ use std::fmt::Write;
 
 use crate::boundaries::{boundaries, Boundaries, BOUNDARIES, TAKE_FLAGS_OUTSIDE};
 use crate::call::Argument;
+use crate::cells::CellsReach;
 use crate::damage::DamageKind;
 use crate::entry::Entry;
 use crate::model::ranges::in_range;
@@ -13,9 +14,22 @@ use cepnhoy::Settings;
 
 const NUMBERS: usize = 20;
 
-/// Causes that can apply together: only then does it show which is looked at first. Those of totals calls stand apart.
-const TOGETHER: &[(u64, u64)] =
-    &[(1, 2), (1, 3), (1, 7), (2, 3), (2, 4), (2, 5), (2, 6), (3, 4), (3, 5), (7, 8), (7, 9), (8, 9), (8, 10), (9, 10)];
+/// Causes that can apply together: only then does it show which is looked at first. Each stands with those that are looked at after it.
+/// The causes of totals calls stand apart, and so do limits that a call would pass, which are looked at last.
+const TOGETHER: &[(u64, &[u64])] = &[
+    (13, &[1, 2, 3, 4, 5, 6, 7, 8, 9, 10, 11]),
+    (1, &[2, 3, 4, 5, 6, 7, 8, 9, 10, 11]),
+    (2, &[3, 4, 5, 6]),
+    (3, &[4, 5]),
+    (7, &[8, 9, 10, 11]),
+    (8, &[9, 10]),
+    (9, &[10, 11]),
+];
+
+/// The same, two by two.
+fn together() -> impl Iterator<Item = (u64, u64)> {
+    TOGETHER.iter().flat_map(|(first, others)| others.iter().map(|second| (*first, *second)))
+}
 
 pub struct Reach {
     numbers: Vec<[u64; NUMBERS]>,
@@ -26,6 +40,7 @@ pub struct Reach {
     damages: Vec<[u64; 2]>,
     together: Vec<u64>,
     pub totals: TotalsReach,
+    pub cells: CellsReach,
     pub damaged_calls: u64,
 }
 
@@ -38,8 +53,9 @@ impl Default for Reach {
             take_flags: vec![[0; 2]; TAKE_FLAGS_OUTSIDE.len()],
             situations: vec![0; Situation::ALL.len()],
             damages: vec![[0; 2]; DamageKind::ALL.len()],
-            together: vec![0; TOGETHER.len()],
+            together: vec![0; together().count()],
             totals: TotalsReach::default(),
+            cells: CellsReach::default(),
             damaged_calls: 0,
         }
     }
@@ -67,8 +83,8 @@ impl Reach {
         if causes.len() < 2 {
             return;
         }
-        for ((lower, higher), count) in TOGETHER.iter().zip(&mut self.together) {
-            *count += u64::from(causes.contains(lower) && causes.contains(higher));
+        for ((first, second), count) in together().zip(&mut self.together) {
+            *count += u64::from(causes.contains(&first) && causes.contains(&second));
         }
     }
 
@@ -106,9 +122,9 @@ impl Reach {
             }
         }
         missing.extend(self.missing_boundaries());
-        for ((lower, higher), count) in TOGETHER.iter().zip(&self.together) {
+        for ((first, second), count) in together().zip(&self.together) {
             if *count == 0 {
-                missing.push(format!("causes {lower} and {higher} together"));
+                missing.push(format!("causes {first} and {second} together"));
             }
         }
         for &situation in Situation::ALL {
@@ -122,6 +138,7 @@ impl Reach {
             }
         }
         missing.extend(self.totals.missing());
+        missing.extend(self.cells.missing());
         missing
     }
 
@@ -149,11 +166,12 @@ impl Reach {
         self.write_situations(&mut table);
         self.write_damages(&mut table);
         self.totals.write(&mut table);
+        self.cells.write(&mut table);
         table
     }
 
     fn write_numbers(&self, table: &mut String) {
-        let columns = [0, 1, 2, 3, 4, 5, 6, 7, 8, 9, 10, 11, 12, 19];
+        let columns = [0, 1, 2, 3, 4, 5, 6, 7, 8, 9, 10, 11, 12, 13, 19];
         let _ = write!(table, "How often each number was given\n{:24}", "");
         for number in columns {
             let _ = write!(table, " {number:>8}");
@@ -170,8 +188,8 @@ impl Reach {
             }
         }
         table.push_str("\n\nHow often two causes applied to one call\n");
-        for ((lower, higher), count) in TOGETHER.iter().zip(&self.together) {
-            let _ = write!(table, "{lower} and {higher}: {count}  ");
+        for ((first, second), count) in together().zip(&self.together) {
+            let _ = write!(table, "{first} and {second}: {count}  ");
         }
         table.push('\n');
     }

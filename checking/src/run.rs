@@ -3,12 +3,15 @@
 use std::fmt::Write;
 
 use crate::books::random_case;
-use crate::check::{check_case, Case, Expected};
+use crate::cells::cells_in_words;
+use crate::check::{check_case, check_lists, Case, Expected};
 use crate::compare::{settings_in_words, Checked, Failure};
 use crate::damage::Damage;
 use crate::large::{check_large, large_cases};
+use crate::model::slice::WORDS;
+use crate::model::Book;
 use crate::moved::check_moved;
-use crate::probe::check_damaged;
+use crate::probe::{check_damaged, check_length};
 use crate::random::Random;
 use crate::reach::Reach;
 use crate::shrink::smallest;
@@ -28,14 +31,33 @@ pub fn check_book(seed: u64, index: u64, reach: &mut Reach) -> Checked {
     report(&name, &case, |case| check_case(case, reach))?;
     report(&name, &case, |case| check_moved(case, reach))?;
     for damage in &damages {
-        report(&name, &case, |case| check_damage(case, damage, reach))?;
+        report(&name, &case, |case| check_damaged(&reached(case), damage, reach))?;
     }
     Ok(())
 }
 
-fn check_damage(case: &Case, damage: &Damage, reach: &mut Reach) -> Checked {
-    let book = Expected::of(case).book;
-    check_damaged(&book, damage, reach)
+/// The book that the calls reach from a slice at 0.
+fn reached(case: &Case) -> Book {
+    let mut book = Book::fresh(case.rows.clone());
+    for call in &case.calls {
+        book.make(call);
+    }
+    book
+}
+
+/// How many words more than a cell slice has to have are tried.
+const WORDS_PAST: usize = 4;
+
+/// Checks every call with a cell slice of each length: all that are too short, the shortest that is not, and a few longer ones.
+pub fn check_lengths(seed: u64, reach: &mut Reach) -> Checked {
+    for words in 0..=WORDS + WORDS_PAST {
+        let random = &mut Random::part(seed, u64::MAX - 1 - words as u64);
+        let case = Case { cells: vec![0; words], ..random_case(random) };
+        let name = format!("cell slice of {words} words");
+        report(&name, &case, |case| check_lists(case, &Expected::of(case), reach))?;
+        report(&name, &case, |case| check_length(&reached(case), words, &mut random.clone(), reach))?;
+    }
+    Ok(())
 }
 
 /// Checks books at the limit of meters.
@@ -53,15 +75,14 @@ fn report(name: &str, case: &Case, mut check: impl FnMut(&Case) -> Checked) -> C
     };
     let with_calls = |calls: &[_]| Case { calls: calls.to_vec(), ..case.clone() };
     let (calls, failure) = smallest(&case.calls, failure, |calls| check(&with_calls(calls)).err());
-    let mut cut = with_calls(&calls);
-    let zeros = Case { rows: vec![0; cut.rows.len()], ..cut.clone() };
-    let failure = match check(&zeros) {
-        Err(still) => {
-            cut = zeros;
-            still
+    let (mut cut, mut failure) = (with_calls(&calls), failure);
+    let zero_rows = |case: &Case| Case { rows: vec![0; case.rows.len()], ..case.clone() };
+    let zero_cells = |case: &Case| Case { cells: vec![0; case.cells.len()], ..case.clone() };
+    for simpler in [&zero_rows as &dyn Fn(&Case) -> Case, &zero_cells] {
+        if let Err(still) = check(&simpler(&cut)) {
+            (cut, failure) = (simpler(&cut), still);
         }
-        Ok(()) => failure,
-    };
+    }
     Err(in_words(name, &cut, failure))
 }
 
@@ -72,17 +93,19 @@ fn in_words(name: &str, case: &Case, Failure(what): Failure) -> Failure {
         false => format!("at first {:?}", &case.rows[..case.rows.len().min(400)]),
     };
     let _ = writeln!(words, "row slice: {} words, {lent}", case.rows.len());
+    let _ = writeln!(words, "cell slice: {}", cells_in_words(&case.cells));
     let _ = writeln!(words, "volume slice: {} words", case.volumes.len());
     let count = case.calls.len();
     let _ = writeln!(words, "the smallest list found, {count} calls, and the numbers that they must give:");
-    let expected = Expected::of(case);
+    // Call by call a large book would take hours.
+    let expected = if case.starts_at_zero() { Expected::at_once(case) } else { Expected::of(case) };
     for (place, (call, number)) in case.calls.iter().zip(&expected.numbers).enumerate().take(CALLS_PRINTED) {
         let _ = writeln!(words, "  {:>3}  {call}  -> {number}", place + 1);
     }
     if count > CALLS_PRINTED {
         let _ = writeln!(words, "  and {} more", count - CALLS_PRINTED);
     }
-    let settings = settings_in_words(&expected.book.settings());
+    let settings = settings_in_words(&expected.running.book.settings());
     let _ = write!(words, "settings that they must leave: {settings}");
     Failure(words)
 }

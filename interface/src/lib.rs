@@ -4,7 +4,7 @@
 //! arguments and results. What a call does, and what each number stands for, is told in the header, `include/cepnhoy.h`.
 
 /// How many weights, load shapes, units and tariffs there are, and meters at most; how many words a row, a call in a list and the
-/// totals of all tariffs take.
+/// totals of all tariffs take. Of the slice of running cells, how many words are used, and how many of them, the first ones, are cells.
 pub const CLASSES: usize = 24;
 pub const CATEGORIES: usize = 64;
 pub const UNITS: usize = 32;
@@ -13,6 +13,8 @@ pub const METERS_MAX: usize = 65_536;
 pub const ROW_WORDS: usize = 3;
 pub const CALL_WORDS: usize = 12;
 pub const TOTALS_WORDS: usize = 4_096;
+pub const SLICE_WORDS: usize = 836;
+pub const CELL_WORDS: usize = 768;
 
 /// The flag of the Take in the settings. With any other number there a book isn't well formed.
 pub const TAKE_FLAG_UNSET: u32 = 0;
@@ -40,6 +42,7 @@ pub const SHAPE_OF_DEFAULT_MISSING: u64 = 9;
 pub const WEIGHTED_BELOW_ONE: u64 = 10;
 pub const TOLERANCE_EXCEEDED: u64 = 11;
 pub const TOTALS_SHORT: u64 = 12;
+pub const CELLS_SHORT: u64 = 13;
 pub const LIST_MISSHAPEN: u64 = 19;
 
 /// The ranges of a meter's MPAN and registration.
@@ -75,6 +78,10 @@ pub const SHAPE_MISSING: u64 = 4_294_967_295;
 pub const TOLERANCE_MAX: u64 = 1_000;
 pub const TAKE_MIN: i64 = -5_000_000_000;
 pub const TAKE_MAX: i64 = 5_000_000_000;
+
+/// The limits of the slice of running cells: what the sizes of all cells may add up to, and what a count or a waiting number may be.
+pub const CELL_SIZES_MAX: u64 = 1_310_720_000_000_000;
+pub const COUNT_MAX: i64 = 4_294_967_295;
 
 #[repr(C)]
 #[derive(Clone, Copy, Debug, PartialEq, Eq)]
@@ -146,6 +153,8 @@ extern "C" {
         settings: Settings,
         rows: *mut u64,
         rows_length: usize,
+        cells: *mut i64,
+        cells_length: usize,
         mpan: u64,
         registration: Registration,
     ) -> Answer;
@@ -153,23 +162,51 @@ extern "C" {
         settings: Settings,
         rows: *mut u64,
         rows_length: usize,
+        cells: *mut i64,
+        cells_length: usize,
         mpan: u64,
         reading: Reading,
     ) -> Answer;
-    fn cepnhoy_set_shape(settings: Settings, rows: *const u64, rows_length: usize, category: u64, wh: u64) -> Answer;
+    fn cepnhoy_set_shape(
+        settings: Settings,
+        rows: *const u64,
+        rows_length: usize,
+        cells: *mut i64,
+        cells_length: usize,
+        category: u64,
+        wh: u64,
+    ) -> Answer;
     fn cepnhoy_set_weight(
         settings: Settings,
         rows: *const u64,
         rows_length: usize,
+        cells: *const i64,
+        cells_length: usize,
         class: u64,
         thousandths: u64,
     ) -> Answer;
-    fn cepnhoy_set_tolerance(settings: Settings, rows: *const u64, rows_length: usize, g: u64) -> Answer;
-    fn cepnhoy_set_take(settings: Settings, rows: *const u64, rows_length: usize, wh: i64) -> Answer;
+    fn cepnhoy_set_tolerance(
+        settings: Settings,
+        rows: *const u64,
+        rows_length: usize,
+        cells: *const i64,
+        cells_length: usize,
+        g: u64,
+    ) -> Answer;
+    fn cepnhoy_set_take(
+        settings: Settings,
+        rows: *const u64,
+        rows_length: usize,
+        cells: *const i64,
+        cells_length: usize,
+        wh: i64,
+    ) -> Answer;
     fn cepnhoy_allocate(
         settings: Settings,
         rows: *const u64,
         rows_length: usize,
+        cells: *const i64,
+        cells_length: usize,
         volumes: *mut i64,
         volumes_length: usize,
     ) -> AllocationAnswer;
@@ -186,6 +223,8 @@ extern "C" {
         settings: Settings,
         rows: *mut u64,
         rows_length: usize,
+        cells: *mut i64,
+        cells_length: usize,
         calls: *const u64,
         calls_length: usize,
         numbers: *mut u64,
@@ -194,6 +233,8 @@ extern "C" {
     fn cepnhoy_settle_list(
         rows: *mut u64,
         rows_length: usize,
+        cells: *mut i64,
+        cells_length: usize,
         calls: *const u64,
         calls_length: usize,
         numbers: *mut u64,
@@ -210,32 +251,52 @@ pub fn fresh() -> Settings {
     unsafe { cepnhoy_fresh() }
 }
 
-pub fn register(settings: Settings, rows: &mut [u64], mpan: u64, registration: Registration) -> Answer {
-    unsafe { cepnhoy_register(settings, rows.as_mut_ptr(), rows.len(), mpan, registration) }
+pub fn register(
+    settings: Settings,
+    rows: &mut [u64],
+    cells: &mut [i64],
+    mpan: u64,
+    registration: Registration,
+) -> Answer {
+    unsafe {
+        cepnhoy_register(settings, rows.as_mut_ptr(), rows.len(), cells.as_mut_ptr(), cells.len(), mpan, registration)
+    }
 }
 
-pub fn record_reading(settings: Settings, rows: &mut [u64], mpan: u64, reading: Reading) -> Answer {
-    unsafe { cepnhoy_record_reading(settings, rows.as_mut_ptr(), rows.len(), mpan, reading) }
+pub fn record_reading(settings: Settings, rows: &mut [u64], cells: &mut [i64], mpan: u64, reading: Reading) -> Answer {
+    unsafe {
+        cepnhoy_record_reading(settings, rows.as_mut_ptr(), rows.len(), cells.as_mut_ptr(), cells.len(), mpan, reading)
+    }
 }
 
-pub fn set_shape(settings: Settings, rows: &[u64], category: u64, wh: u64) -> Answer {
-    unsafe { cepnhoy_set_shape(settings, rows.as_ptr(), rows.len(), category, wh) }
+pub fn set_shape(settings: Settings, rows: &[u64], cells: &mut [i64], category: u64, wh: u64) -> Answer {
+    unsafe { cepnhoy_set_shape(settings, rows.as_ptr(), rows.len(), cells.as_mut_ptr(), cells.len(), category, wh) }
 }
 
-pub fn set_weight(settings: Settings, rows: &[u64], class: u64, thousandths: u64) -> Answer {
-    unsafe { cepnhoy_set_weight(settings, rows.as_ptr(), rows.len(), class, thousandths) }
+pub fn set_weight(settings: Settings, rows: &[u64], cells: &[i64], class: u64, thousandths: u64) -> Answer {
+    unsafe { cepnhoy_set_weight(settings, rows.as_ptr(), rows.len(), cells.as_ptr(), cells.len(), class, thousandths) }
 }
 
-pub fn set_tolerance(settings: Settings, rows: &[u64], g: u64) -> Answer {
-    unsafe { cepnhoy_set_tolerance(settings, rows.as_ptr(), rows.len(), g) }
+pub fn set_tolerance(settings: Settings, rows: &[u64], cells: &[i64], g: u64) -> Answer {
+    unsafe { cepnhoy_set_tolerance(settings, rows.as_ptr(), rows.len(), cells.as_ptr(), cells.len(), g) }
 }
 
-pub fn set_take(settings: Settings, rows: &[u64], wh: i64) -> Answer {
-    unsafe { cepnhoy_set_take(settings, rows.as_ptr(), rows.len(), wh) }
+pub fn set_take(settings: Settings, rows: &[u64], cells: &[i64], wh: i64) -> Answer {
+    unsafe { cepnhoy_set_take(settings, rows.as_ptr(), rows.len(), cells.as_ptr(), cells.len(), wh) }
 }
 
-pub fn allocate(settings: Settings, rows: &[u64], volumes: &mut [i64]) -> AllocationAnswer {
-    unsafe { cepnhoy_allocate(settings, rows.as_ptr(), rows.len(), volumes.as_mut_ptr(), volumes.len()) }
+pub fn allocate(settings: Settings, rows: &[u64], cells: &[i64], volumes: &mut [i64]) -> AllocationAnswer {
+    unsafe {
+        cepnhoy_allocate(
+            settings,
+            rows.as_ptr(),
+            rows.len(),
+            cells.as_ptr(),
+            cells.len(),
+            volumes.as_mut_ptr(),
+            volumes.len(),
+        )
+    }
 }
 
 pub fn totals(settings: Settings, rows: &[u64], direction: u64, network: u64, totals: &mut [u64]) -> Answer {
@@ -244,12 +305,20 @@ pub fn totals(settings: Settings, rows: &[u64], direction: u64, network: u64, to
     }
 }
 
-pub fn make_calls(settings: Settings, rows: &mut [u64], calls: &[u64], numbers: &mut [u64]) -> Answer {
+pub fn make_calls(
+    settings: Settings,
+    rows: &mut [u64],
+    cells: &mut [i64],
+    calls: &[u64],
+    numbers: &mut [u64],
+) -> Answer {
     unsafe {
         cepnhoy_make_calls(
             settings,
             rows.as_mut_ptr(),
             rows.len(),
+            cells.as_mut_ptr(),
+            cells.len(),
             calls.as_ptr(),
             calls.len(),
             numbers.as_mut_ptr(),
@@ -258,11 +327,19 @@ pub fn make_calls(settings: Settings, rows: &mut [u64], calls: &[u64], numbers: 
     }
 }
 
-pub fn settle_list(rows: &mut [u64], calls: &[u64], numbers: &mut [u64], volumes: &mut [i64]) -> AllocationAnswer {
+pub fn settle_list(
+    rows: &mut [u64],
+    cells: &mut [i64],
+    calls: &[u64],
+    numbers: &mut [u64],
+    volumes: &mut [i64],
+) -> AllocationAnswer {
     unsafe {
         cepnhoy_settle_list(
             rows.as_mut_ptr(),
             rows.len(),
+            cells.as_mut_ptr(),
+            cells.len(),
             calls.as_ptr(),
             calls.len(),
             numbers.as_mut_ptr(),

@@ -3,13 +3,14 @@
 
 mod allocation;
 mod book;
+mod cells;
 mod list;
 mod rows;
 mod totals;
 mod words;
 
 pub use allocation::allocate;
-pub use book::{record_reading, register};
+pub use book::{record_reading, register, set_shape};
 pub use list::{make_calls, settle_list};
 pub use totals::totals;
 
@@ -26,4 +27,5 @@ pub const SHAPE_MISSING: u64 = 9;
 pub const WEIGHTED_BELOW_ONE: u64 = 10;
 pub const TOLERANCE_EXCEEDED: u64 = 11;
 pub const TOTALS_SHORT: u64 = 12;
+pub const CELLS_SHORT: u64 = 13;
 pub const LIST_MISSHAPEN: u64 = 19;

@@ -1,6 +1,6 @@
 //! Totals by tariff: one pass that looks for a missing shape, since a refused call writes nothing, and one that adds up.
 
-use super::allocation::{source, ACTUAL, DEFAULTED, IDLE};
+use super::cells::{source, ACTUAL, DEFAULTED, IDLE};
 use super::rows::{is_formed, used, Row};
 use super::words::NETWORK_MOST;
 use super::{ACCEPTED, BOOK_ILL_FORMED, OUT_OF_RANGE, SHAPE_MISSING, TOTALS_SHORT};

@@ -1,6 +1,6 @@
 //! The words of a row, tested and packed with as few instructions as they take.
 
-use cepnhoy::{Reading, Registration};
+use cepnhoy::{Reading, Registration, CATEGORIES};
 
 pub const MPAN_LEAST: u64 = 1_000_000_000_000;
 pub const MPAN_MOST: u64 = 9_999_999_999_999;
@@ -87,6 +87,10 @@ pub fn reading_in_range(r: &Reading) -> bool {
 /// Of a reading that is in range.
 pub fn quality_allowed(r: &Reading) -> bool {
     (r.consumption as u32) < CONSUMPTION_BELOW[r.quality as usize]
+}
+
+pub fn shape_in_range(category: u64, wh: u64) -> bool {
+    category < CATEGORIES as u64 && (wh <= CONSUMPTION_MOST || wh == u64::from(u32::MAX))
 }
 
 pub fn reading_word(r: &Reading) -> u64 {

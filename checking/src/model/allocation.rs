@@ -1,9 +1,10 @@
 //! From cells to volumes.
 
-use crate::model::cells::{cells_of, energy_of, is_export, is_loss, nearest_wh, Cells, Contents, Energy};
-use crate::model::droppings::{droppings_by_unit, metered_by_unit, Metered};
+use crate::model::cells::{cells_of, energies_of, is_export, nearest_wh, Cells, Contents, Energy};
+use crate::model::droppings::{droppings_by_unit, metered_by_unit, unrounded_by_unit};
 use crate::model::fraction::Fraction;
-use cepnhoy::{Allocated, CLASSES, UNITS};
+use crate::model::slice::{cells_in, counts_in, waiting_in};
+use cepnhoy::{Allocated, CATEGORIES, CLASSES, UNITS};
 
 /// n in Wh and a in thousandths of a Wh, of one unit.
 #[derive(Clone, Copy, Debug, Default, PartialEq, Eq)]
@@ -12,54 +13,84 @@ pub struct UnitSums {
     pub weighted: i128,
 }
 
-/// What the meters come to, before the Take plays a part.
+/// What an allocation works from, beside the settings.
+#[derive(Clone, Debug)]
+pub struct Gathered {
+    pub cells: Cells,
+    /// Of each unit, import less export, in thousandths of a Wh.
+    pub exact_losses: [i128; UNITS],
+    /// Actual, estimated, defaulted, idle.
+    pub counts: [u64; 4],
+    /// Whether defaulted meters wait whose shape is missing.
+    pub lacks_shape: bool,
+}
+
+impl Gathered {
+    /// From the meters, as an allocation worked before there was a slice.
+    pub fn of_meters(contents: &Contents) -> Gathered {
+        let energies = energies_of(contents);
+        let count = |wanted: fn(&Energy) -> bool| energies.iter().filter(|energy| wanted(energy)).count() as u64;
+        Gathered {
+            cells: cells_of(contents, &energies),
+            exact_losses: metered_by_unit(contents, &energies).map(|metered| metered.loss_thousandths),
+            counts: [
+                count(|energy| matches!(energy, Energy::Actual(_))),
+                count(|energy| matches!(energy, Energy::Estimated(_))),
+                count(|energy| matches!(energy, Energy::Defaulted(_))),
+                count(|energy| matches!(energy, Energy::Idle)),
+            ],
+            lacks_shape: energies.contains(&Energy::Defaulted(None)),
+        }
+    }
+
+    /// As a slice within its limits reads, with these shapes.
+    pub fn of_slice(words: &[i64], shapes: &[Option<u64>; CATEGORIES]) -> Gathered {
+        let cells = cells_in(words);
+        let mut waiting = waiting_in(words).zip(shapes);
+        Gathered {
+            exact_losses: unrounded_by_unit(&cells),
+            cells,
+            counts: counts_in(words),
+            lacks_shape: waiting.any(|(meters, shape)| meters > 0 && shape.is_none()),
+        }
+    }
+}
+
+/// What the cells come to, before the Take plays a part.
 #[derive(Clone, Debug)]
 pub struct Sums {
-    pub energies: Vec<Energy>,
-    pub metered: [Metered; UNITS],
-    pub cells: Cells,
+    pub gathered: Gathered,
     pub units: [UnitSums; UNITS],
     pub net_wh: i128,
     pub weighted: i128,
 }
 
 impl Sums {
-    pub fn of(contents: &Contents) -> Sums {
-        let energies: Vec<Energy> = contents
-            .meters
-            .iter()
-            .map(|(registration, reading)| energy_of(registration, reading.as_ref(), &contents.shapes))
-            .collect();
-        let cells = cells_of(contents, &energies);
-        let units = unit_sums(&cells, &contents.weights);
+    pub fn of(gathered: Gathered, weights: &[u64; CLASSES]) -> Sums {
+        let units = unit_sums(&gathered.cells, weights);
         Sums {
-            metered: metered_by_unit(contents, &energies),
-            energies,
-            cells,
+            gathered,
             units,
             net_wh: units.iter().map(|unit| unit.net_wh).sum(),
             weighted: units.iter().map(|unit| unit.weighted).sum(),
         }
     }
 
+    pub fn of_meters(contents: &Contents) -> Sums {
+        Sums::of(Gathered::of_meters(contents), &contents.weights)
+    }
+
     /// What an accepted allocation gives as droppings.
     pub fn droppings(&self) -> [i64; UNITS] {
-        droppings_by_unit(&self.metered, &self.cells)
-    }
-
-    pub fn lacks_shape(&self) -> bool {
-        self.energies.contains(&Energy::Defaulted(None))
-    }
-
-    fn count(&self, wanted: fn(&Energy) -> bool) -> u64 {
-        self.energies.iter().filter(|energy| wanted(energy)).count() as u64
+        droppings_by_unit(&self.gathered.exact_losses, &self.gathered.cells)
     }
 }
 
 fn unit_sums(cells: &Cells, weights: &[u64; CLASSES]) -> [UnitSums; UNITS] {
     let mut units = [UnitSums::default(); UNITS];
     for (&(unit, class), &thousandths) in cells {
-        let wh = if is_loss(class) { nearest_wh(thousandths) } else { thousandths / 1_000 };
+        // "every cell rounded by the loss rule": one of consumption too, which calls leave at whole Wh.
+        let wh = nearest_wh(thousandths);
         let sums = &mut units[unit];
         sums.net_wh += if is_export(class) { -wh } else { wh };
         sums.weighted += wh * i128::from(weights[class]);
@@ -165,20 +196,20 @@ impl Allocation {
 }
 
 /// Whether the size of U × 1,000,000 is above g × W.
-fn passes_tolerance(unallocated: i128, weighted: i128, g: u64) -> bool {
+pub fn passes_tolerance(unallocated: i128, weighted: i128, g: u64) -> bool {
     unallocated.abs() * 1_000_000 > i128::from(g) * weighted
 }
 
-/// Allocates a well-formed book. Causes are looked at from the lowest number up.
-pub fn allocate(contents: &Contents, volume_words: usize) -> Allocation {
+/// Allocates a well-formed book from what was gathered. Causes are looked at from the lowest number up.
+pub fn allocate(contents: &Contents, gathered: Gathered, volume_words: usize) -> Allocation {
     if volume_words < UNITS {
         return Allocation::refused(7, None);
     }
     let Some(take_wh) = contents.take_wh else {
         return Allocation::refused(8, None);
     };
-    let sums = Sums::of(contents);
-    if sums.lacks_shape() {
+    let sums = Sums::of(gathered, &contents.weights);
+    if sums.gathered.lacks_shape {
         return Allocation::refused(9, Some(sums));
     }
     if sums.weighted < 1 {
@@ -198,14 +229,15 @@ pub fn allocate(contents: &Contents, volume_words: usize) -> Allocation {
 }
 
 fn accepted_answer(sums: &Sums, unallocated: i128) -> Allocated {
+    let [actual, estimated, defaulted, idle] = sums.gathered.counts;
     Allocated {
         number: 0,
         unallocated: i64::try_from(unallocated).expect("U fits 64 bits"),
         weighted: i64::try_from(sums.weighted).expect("W fits 64 bits"),
-        actual: sums.count(|energy| matches!(energy, Energy::Actual(_))),
-        estimated: sums.count(|energy| matches!(energy, Energy::Estimated(_))),
-        defaulted: sums.count(|energy| matches!(energy, Energy::Defaulted(_))),
-        idle: sums.count(|energy| matches!(energy, Energy::Idle)),
+        actual,
+        estimated,
+        defaulted,
+        idle,
         droppings: sums.droppings(),
     }
 }

@@ -3,7 +3,7 @@
 use std::collections::BTreeMap;
 
 use crate::call::{Argument, Call};
-use crate::model::allocation::{allocate, Allocation};
+use crate::model::allocation::{allocate, Allocation, Gathered};
 use crate::model::cells::Contents;
 use crate::model::ranges::{call_in_range, capacity, in_range, quality_refused, SHAPE_MISSING};
 use crate::model::words::{reading_word, registration_word, written_reading, written_registration};
@@ -134,7 +134,7 @@ impl Book {
     }
 
     /// The number that a call would give now: the lowest cause that applies, or acceptance.
-    pub fn number(&self, call: &Call) -> u64 {
+    fn number(&self, call: &Call) -> u64 {
         self.causes(call).into_iter().min().unwrap_or(0)
     }
 
@@ -183,8 +183,22 @@ impl Book {
         }
     }
 
+    /// The book as it would be if nothing refused the call; none for one that would change no row and no shape.
+    pub fn forced(&self, call: &Call) -> Option<Book> {
+        let mut book = self.clone();
+        match *call {
+            Call::Register { mpan, registration } => book.register(mpan, registration),
+            Call::Reading { mpan, reading } => book.meters.get_mut(&mpan)?.readings = vec![reading],
+            Call::Shape { category, wh } => *book.shapes.get_mut(category as usize)? = shape_held(wh),
+            _ => return None,
+        }
+        Some(book)
+    }
+
+    /// The allocation worked from the meters, as it was before there was a slice of running cells.
     pub fn allocate(&self, volume_words: usize) -> Allocation {
-        allocate(&self.contents(), volume_words)
+        let contents = self.contents();
+        allocate(&contents, Gathered::of_meters(&contents), volume_words)
     }
 }
 

@@ -46,6 +46,12 @@ pub fn energy_of(registration: &Registration, reading: Option<&Reading>, shapes:
     }
 }
 
+/// The energy of each meter.
+pub fn energies_of(contents: &Contents) -> Vec<Energy> {
+    let meters = contents.meters.iter();
+    meters.map(|(registration, reading)| energy_of(registration, reading.as_ref(), &contents.shapes)).collect()
+}
+
 /// The unit that carries a meter's energy.
 pub fn unit_of(registration: &Registration) -> usize {
     let unit = if registration.flag == 1 { registration.additional } else { registration.base };

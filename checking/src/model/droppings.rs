@@ -1,5 +1,6 @@
-//! What rounding the loss cells drops (document 02, request 3). A unit's droppings are what its meters lose exactly, added up meter
-//! by meter without any cell, less its rounded losses. Cell by cell, from the thousandths above a whole Wh, they must come to the same.
+//! What rounding the loss cells drops (document 02, request 3). A unit's droppings are its exact losses less its rounded ones. The
+//! exact losses are those of its meters, added up meter by meter without any cell, or, of a slice filled by hand, its loss cells. Cell by
+//! cell, from the thousandths above a whole Wh, droppings must come to the same.
 
 use crate::model::cells::{cell_of, is_export, is_loss, loss_thousandths, nearest_wh, Cells, Contents, Energy};
 use cepnhoy::{Registration, UNITS};
@@ -55,15 +56,20 @@ pub fn dropped_by_direction(cells: &Cells) -> [[i128; 2]; UNITS] {
     by_unit_and_direction(cells, dropped_thousandths)
 }
 
-/// The droppings of each unit, import less export.
-pub fn droppings_by_unit(metered: &[Metered; UNITS], cells: &Cells) -> [i64; UNITS] {
+/// The loss cells of each unit, unrounded, import less export.
+pub fn unrounded_by_unit(cells: &Cells) -> [i128; UNITS] {
+    by_unit_and_direction(cells, |thousandths| thousandths).map(|[import, export]| import - export)
+}
+
+/// The droppings of each unit, import less export, from its exact losses.
+pub fn droppings_by_unit(exact: &[i128; UNITS], cells: &Cells) -> [i64; UNITS] {
     let rounded_wh = by_unit_and_direction(cells, nearest_wh);
     let dropped = dropped_by_direction(cells);
     std::array::from_fn(|unit| {
         let [import_wh, export_wh] = rounded_wh[unit];
-        let droppings = metered[unit].loss_thousandths - 1_000 * (import_wh - export_wh);
+        let droppings = exact[unit] - 1_000 * (import_wh - export_wh);
         let [import_dropped, export_dropped] = dropped[unit];
-        assert_eq!(droppings, import_dropped - export_dropped, "unit {unit}: by its meters and by its cells");
+        assert_eq!(droppings, import_dropped - export_dropped, "unit {unit}: by its exact losses and cell by cell");
         i64::try_from(droppings).expect("droppings fit 64 bits")
     })
 }

@@ -5,7 +5,7 @@ use crate::call::Call;
 use crate::compare::{at, same, same_words, Checked, AGAINST_FIGURES};
 use crate::lent::Lent;
 use crate::model::totals::{Asked, Totals, WORDS};
-use crate::model::Book;
+use crate::model::{Book, Running};
 use crate::random::Random;
 use crate::reach::Reach;
 use cepnhoy::{Reading, Registration};
@@ -91,6 +91,6 @@ fn check_one(book: &Book, asked: &Asked, charged: &[Charged], reach: &mut Reach)
     }
     let worked = Totals::of(&book.contents(), asked).slice_after(&[u64::MAX; WORDS]);
     at(|| String::from(AGAINST_FIGURES), same_words("totals", &worked, &words))?;
-    let mut lent = Lent::new(book.settings(), &book.words());
+    let mut lent = Lent::of(&Running::of(book.clone()));
     check_totals(&mut lent, Some(book), asked, &mut Random::new(1), reach)
 }

@@ -11,7 +11,7 @@ pub use figure::check_figure;
 pub use reach::TotalsReach;
 pub use whole::{check_book_totals, check_sums};
 
-use crate::compare::{same, same_settings, same_words, Checked};
+use crate::compare::{same, same_words, Checked};
 use crate::entry::Entry;
 use crate::lent::{Guarded, Lent};
 use crate::model::totals::{Asked, Totals};
@@ -29,14 +29,12 @@ pub fn check_totals(
 ) -> Checked {
     let wanted = wanted(book, asked, reach);
     reach.note_number(Entry::Totals, wanted.number);
-    let before = lent.clone();
+    let after = lent.afterwards(None);
     let words_before = random.words(asked.words);
     let mut lent_totals = Guarded::new(&words_before, u64::MAX);
     let given = lent.totals(asked.direction, asked.network, lent_totals.lend());
     same("number", given, wanted.number)?;
-    same_settings(&lent.settings, &before.settings)?;
-    same_words("rows", lent.rows.contents(), before.rows.contents())?;
-    lent.rows.check_guards("row")?;
+    lent.check(&after)?;
     same_words("totals", lent_totals.contents(), &wanted.slice_after(&words_before))?;
     lent_totals.check_guards("totals")
 }

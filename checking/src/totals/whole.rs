@@ -3,11 +3,11 @@
 use super::{check_totals, random_asked};
 use crate::compare::{at, same, same_allocated, same_words, Checked, Failure};
 use crate::lent::Lent;
-use crate::model::allocation::Sums;
+use crate::model::allocation::Gathered;
 use crate::model::cells::{is_estimate, is_export, is_loss, Cells};
 use crate::model::totals::WORDS;
 use crate::model::words::{registration_of, registration_word};
-use crate::model::Book;
+use crate::model::{Book, Running};
 use crate::profile::random_number;
 use crate::random::Random;
 use crate::reach::Reach;
@@ -45,14 +45,14 @@ fn consumption_wh(cells: &Cells, direction: u64) -> [u128; 2] {
 /// e = 1; the meters counted are those that an accepted allocation counts as actual, estimated or defaulted. If a shape is lacking,
 /// all totals are refused.
 pub fn check_sums(lent: &mut Lent, book: &Book, reach: &mut Reach) -> Checked {
-    let sums = Sums::of(&book.contents());
-    if sums.lacks_shape() {
+    let gathered = Gathered::of_meters(&book.contents());
+    if gathered.lacks_shape {
         return Ok(());
     }
     let mut meters = 0;
     for direction in 0..2 {
         let [actual, other, energised, de_energised] = added_up(lent, direction)?;
-        let [with_e_0, with_e_1] = consumption_wh(&sums.cells, direction);
+        let [with_e_0, with_e_1] = consumption_wh(&gathered.cells, direction);
         same(&format!("actual Wh of direction {direction} over all totals, against its cells"), actual, with_e_0)?;
         same(&format!("other Wh of direction {direction} over all totals, against its cells"), other, with_e_1)?;
         reach.note_if(Situation::TotalsSummed, actual > 0 && other > 0);
@@ -70,7 +70,8 @@ pub fn check_sums(lent: &mut Lent, book: &Book, reach: &mut Reach) -> Checked {
 /// Totals of a book that calls reached, and that its allocation looks at no network and no tariff. All totals are added up for some
 /// books only, since that takes 128 calls.
 pub fn check_book_totals(book: &Book, volumes: &[i64], random: &mut Random, reach: &mut Reach) -> Checked {
-    let mut lent = Lent::new(book.settings(), &book.words());
+    let running = Running::of(book.clone());
+    let mut lent = Lent::of(&running);
     for _ in 0..2 {
         let asked = random_asked(&book.contents(), random);
         at(|| format!("{asked} after the list"), check_totals(&mut lent, Some(book), &asked, random, reach))?;
@@ -78,7 +79,7 @@ pub fn check_book_totals(book: &Book, volumes: &[i64], random: &mut Random, reac
     if random.percent(10) {
         check_sums(&mut lent, book, reach)?;
     }
-    check_redrawn(book, volumes, random, reach)
+    check_redrawn(&running, volumes, random, reach)
 }
 
 /// The rows with other networks and tariffs in all used ones.
@@ -92,12 +93,12 @@ fn redrawn(rows: &[u64], meters: usize, random: &mut Random) -> Vec<u64> {
 }
 
 /// "Allocation ignores the new fields": with all networks and tariffs redrawn, the library allocates as before.
-fn check_redrawn(book: &Book, volumes: &[i64], random: &mut Random, reach: &mut Reach) -> Checked {
-    let (settings, rows) = (book.settings(), book.words());
+fn check_redrawn(running: &Running, volumes: &[i64], random: &mut Random, reach: &mut Reach) -> Checked {
+    let (settings, rows, cells) = (running.book.settings(), running.book.words(), &running.cells);
     let other_rows = redrawn(&rows, settings.meters, random);
     let (mut volumes_before, mut volumes_after) = (volumes.to_vec(), volumes.to_vec());
-    let before = Lent::new(settings, &rows).allocate(&mut volumes_before);
-    let after = Lent::new(settings, &other_rows).allocate(&mut volumes_after);
+    let before = Lent::new(settings, &rows, cells).allocate(&mut volumes_before);
+    let after = Lent::new(settings, &other_rows, cells).allocate(&mut volumes_after);
     reach.note_if(Situation::RedrawnAccepted, before.answer.number == 0 && other_rows != rows);
     let outcome = same_allocated(&after.answer, &before.answer)
         .and_then(|()| same_words("volumes", &volumes_after, &volumes_before));

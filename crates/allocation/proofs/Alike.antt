@@ -8,9 +8,8 @@ use Rattle.book.specs.declared.Settings.{Settings}
 use Rattle.book.specs.Rows.{Row}
 use Rattle.cells.specs.Cells.{count_from, units, loss_cell, cells_of}
 use Rattle.cells.specs.Energy.{counts_of, any_lacks_shape}
-use Rattle.correction.specs.declared.UnitSums.{UnitSums}
-use Rattle.correction.specs.Correction.{net_of, weighted_of}
-use Rattle.allocation.specs.Losses.{over_losses, unit_droppings, all_droppings}
+use Rattle.correction.specs.Correction.{over_losses, sums_of}
+use Rattle.allocation.specs.Losses.{unit_droppings, all_droppings}
 use Rattle.allocation.specs.Allocate.{unit_sums, all_unit_sums, meters_cause, figures_of}
 
 -- meters that are the same to it under these shapes
@@ -20,14 +19,11 @@ pub record MetersAlike (shapes : List ℕ) (meters others : List Row) : Type 0 w
   pub same-lacks : any_lacks_shape shapes meters ≡ any_lacks_shape shapes others
   pub same-losses : (unit class : ℕ) → loss_cell shapes meters unit class ≡ loss_cell shapes others unit class
 
-abbrev worked : List ℕ → List ℤ → UnitSums
-worked weights cells = record { net = net_of 0 cells; weighted = weighted_of cells weights }
-
 module _ {s t : Settings} {meters others : List Row} (settings : s ≡ t) (alike : MetersAlike s.shapes meters others) where
   same-sums : all_unit_sums s meters ≡ all_unit_sums s others
   unfolding all_unit_sums unit_sums
   same-sums =
-      ap (λ (cells : ℕ → List ℤ). map (λ unit. worked s.weights (cells unit)) (count_from 0 units)) (fun_ext alike.same-cells)
+      ap (λ (cells : ℕ → List ℤ). map (λ unit. sums_of (cells unit) s.weights) (count_from 0 units)) (fun_ext alike.same-cells)
 
   same-droppings : all_droppings s.shapes meters ≡ all_droppings s.shapes others
   unfolding all_droppings unit_droppings

@@ -8,7 +8,8 @@ use Rattle.book.specs.Rows.{Row}
 use Rattle.cells.proofs.Permuted.{Permuted}
 use Rattle.cells.proofs.SumOver.{sum-over-any-order}
 use Rattle.cells.proofs.AnyOrder.{loss-any-order, cell-any-order, cells-any-order, counts-any-order, lacks-any-order}
-use Rattle.allocation.specs.Losses.{over_losses, rounded_losses, exact_loss, exact_losses, LossesReconciled}
+use Rattle.correction.specs.Correction.{over_losses}
+use Rattle.allocation.specs.Losses.{rounded_losses, exact_loss, exact_losses, LossesReconciled}
 use Rattle.allocation.specs.Allocate.{all_unit_sums, meters_cause, figures_of}
 use Rattle.allocation.proofs.Alike.{MetersAlike, sums-alike, cause-alike, figures-alike}
 

@@ -9,6 +9,7 @@ use lib.IntN.{ℤ, pos, neg_ℤ, nat_abs, ◌+ℤ◌, ◌-ℤ◌, ◌*ℤ◌, ne
 use borrow.Author.Tests.{eqb-true, eqb-false, eq-eqb, ne_eqb}
 use Rattle.integers.specs.Rounding.{nearest_wh, dropped_thousandths}
 use Rattle.integers.proofs.Nearest.{nearest-half}
+use Rattle.integers.proofs.Sizes.{size-sum}
 use Rattle.integers.proofs.Ring.{plus-rest, times-neg}
 use Rattle.words.specs.Registration.{direction_of, unit_of}
 use Rattle.words.proofs.Tests.{by-test}
@@ -20,11 +21,10 @@ use Rattle.cells.proofs.Counting.{counted-length, counted-at}
 use Rattle.cells.proofs.SumOver.{sum-over-through}
 use Rattle.cells.proofs.SumBelow.{sum-below-same, sum-below-plus, sum-below-times, sum-below-only, sum-below-over, sum-over-same}
 use Rattle.cells.proofs.RowBounds.{RowBounds, class-even, class-direction}
-use Rattle.cells.proofs.Totals.{total, total_mono}
-use Rattle.correction.specs.Correction.{by_direction}
+use Rattle.cells.proofs.Totals.{total, total_mono, sizes-total}
+use Rattle.correction.specs.Correction.{by_direction, over_losses}
 use Rattle.correction.proofs.RunningSums.{direction-size}
-use Rattle.correction.proofs.Sizes.{size-sum, sizes-total}
-use Rattle.allocation.specs.Losses.{cell_dropped, unit_droppings, all_droppings, rounded_losses, exact_loss, exact_losses, LossesReconciled}
+use Rattle.allocation.specs.Losses.{unit_droppings, all_droppings, rounded_losses, exact_loss, exact_losses, LossesReconciled}
 
 -- what an amount of a class adds to a sum over losses, by whether it is a loss class and whether it is one of import
 abbrev added : Bool → Bool → ℤ → ℤ
@@ -45,20 +45,41 @@ added-plus true false a b = neg_ℤ-+ℤ a b
 added-plus false imported a b = refl
 
 -- the Wh that thousandths are rounded to, in thousandths, and the thousandths dropped are together those there were
-rejoined : (loss imported : Bool) (t used : ℤ)
-    → pos 1000 *ℤ added loss imported (cond loss (nearest_wh t) used) +ℤ added loss imported (dropped_thousandths t) ≡ added loss imported t
+rejoined : (loss imported : Bool) (t r : ℤ) → (loss ≡ true → r ≡ nearest_wh t)
+    → pos 1000 *ℤ added loss imported r +ℤ added loss imported (dropped_thousandths t) ≡ added loss imported t
 unfolding dropped_thousandths
-rejoined true true t used = plus-rest (pos 1000 *ℤ nearest_wh t) t
-rejoined true false t used =
+rejoined true true t r e = rw (e refl) (plus-rest (pos 1000 *ℤ nearest_wh t) t)
+rejoined true false t r e =
     let whole = pos 1000 *ℤ nearest_wh t in
-    rw (times-neg (pos 1000) (nearest_wh t)) (sym (neg_ℤ-+ℤ whole (t -ℤ whole)) ∙ ap neg_ℤ (plus-rest whole t))
-rejoined false imported t used = refl
+    rw (e refl, times-neg (pos 1000) (nearest_wh t)) (sym (neg_ℤ-+ℤ whole (t -ℤ whole)) ∙ ap neg_ℤ (plus-rest whole t))
+rejoined false imported t r e = refl
 
--- at most 500 of them in a loss class, and none in another
+-- at most 500 are dropped of a loss class, and none of another
 dropped-most : (class : ℕ) (loss : Bool) (t : ℤ) → nat_abs (cond loss (by_direction class (dropped_thousandths t)) (pos 0)) ≤ cond loss 500 0
-unfolding dropped_thousandths
 dropped-most class true t = rw (direction-size class (dropped_thousandths t)) (nearest-half t)
 dropped-most class false t = omega arith
+
+-- over the classes of a unit: t are its losses in thousandths
+module _ (t : ℕ → ℤ) where
+  pub losses-joined : (r : ℕ → ℤ) → ((class : ℕ) → is_loss_class class ≡ true → r class ≡ nearest_wh (t class))
+      → pos 1000 *ℤ over_losses r +ℤ over_losses (λ class. dropped_thousandths (t class)) ≡ over_losses t
+  losses-joined r rounded =
+      rw (← sum-below-times classes (pos 1000) (λ class. added_at class (r class)))
+      (sym (sum-below-plus classes _ _)
+      ∙ sum-below-same classes _ _ (λ class h. rejoined (is_loss_class class) (eqb (class / 4 % 2) 0) (t class) (r class) (rounded class)))
+
+  -- 500 in each of 12 classes
+  pub droppings-bounded : nat_abs (over_losses (λ class. dropped_thousandths (t class))) ≤ 6000
+  unfolding total
+  droppings-bounded =
+      let f : ℕ → ℤ = λ class. added_at class (dropped_thousandths (t class)) in
+      let most : (class : ℕ) → nat_abs (f class) ≤ cond (is_loss_class class) 500 0 = λ class. dropped-most class (is_loss_class class) (t class) in
+      omega (
+        arith,
+        size-sum (map f (count_from 0 classes)),
+        sizes-total f 0 classes,
+        total_mono (λ class. nat_abs (f class)) (λ class. cond (is_loss_class class) 500 0) most 0 classes,
+      )
 
 -- losses of a meter with consumption of class k and direction d are added at the class after k and no other
 added-once : (own : Bool) (k class d : ℕ) (x : ℤ) → k % 2 ≡ 0 → k / 4 % 2 ≡ d
@@ -80,15 +101,21 @@ added-once own k class d x even direction =
     by false imported = added_none true imported
 
 module _ (shapes : List ℕ) (unit : ℕ) where
-  -- what is rounded and what is dropped in a class, as a sum over meters
-  class-over : (meters : List Row) (class : ℕ) → pos 1000 *ℤ added_at class (cell shapes meters unit class) +ℤ added_at class (cell_dropped shapes meters unit class)
-      ≡ sum_over (λ registration reading. added_at class (loss_in shapes unit (class - 1) registration reading)) meters
-  unfolding cell loss_cell
+  -- the loss cell of a loss class, in thousandths
+  abbrev loss_of : List Row → ℕ → ℤ
+  loss_of meters class = loss_cell shapes meters unit (class - 1)
+
+  loss-rounded : (meters : List Row) (class : ℕ) → is_loss_class class ≡ true → cell shapes meters unit class ≡ nearest_wh (loss_of meters class)
+  unfolding cell
+  loss-rounded meters class h = rw h
+
+  -- what it adds, as a sum over meters
+  class-over : (meters : List Row) (class : ℕ) → added_at class (loss_of meters class) ≡ sum_over (λ registration reading. added_at class (loss_in shapes unit (class - 1) registration reading)) meters
+  unfolding loss_cell
   class-over meters class =
       let loss = is_loss_class class in
       let imported = eqb (class / 4 % 2) 0 in
-      rejoined loss imported (loss_cell shapes meters unit (class - 1)) _
-      ∙ sum-over-through (loss_in shapes unit (class - 1)) (added_at class) (added_none loss imported) (added-plus loss imported) meters
+      sum-over-through (loss_in shapes unit (class - 1)) (added_at class) (added_none loss imported) (added-plus loss imported) meters
 
   -- over all classes, each meter of the unit gives its exact loss
   loss-once : (r : Row) → RowBounds shapes r
@@ -105,24 +132,14 @@ module _ (shapes : List ℕ) (unit : ℕ) where
       → pos 1000 *ℤ rounded_losses shapes meters unit +ℤ unit_droppings shapes meters unit ≡ exact_losses shapes meters unit
   unfolding rounded_losses unit_droppings exact_losses
   unit-reconciled {meters = meters} each =
-      rw (← sum-below-times classes (pos 1000) (λ class. added_at class (cell shapes meters unit class)))
-      (sym (sum-below-plus classes _ _)
+      losses-joined (loss_of meters) (cell shapes meters unit) (loss-rounded meters)
       ∙ sum-below-same classes _ _ (λ class h. class-over meters class)
       ∙ sum-below-over classes (λ class registration reading. added_at class (loss_in shapes unit (class - 1) registration reading)) meters
-      ∙ sum-over-same _ (exact_loss shapes unit) loss-once each)
+      ∙ sum-over-same _ (exact_loss shapes unit) loss-once each
 
-  -- 500 in each of 12 classes
   unit-bounded : (meters : List Row) → nat_abs (unit_droppings shapes meters unit) ≤ 6000
-  unfolding unit_droppings total
-  unit-bounded meters =
-      let f : ℕ → ℤ = λ class. added_at class (cell_dropped shapes meters unit class) in
-      let most : (class : ℕ) → nat_abs (f class) ≤ cond (is_loss_class class) 500 0 = λ class. dropped-most class (is_loss_class class) (loss_cell shapes meters unit (class - 1)) in
-      omega (
-        arith,
-        size-sum (map f (count_from 0 classes)),
-        sizes-total f 0 classes,
-        total_mono (λ class. nat_abs (f class)) (λ class. cond (is_loss_class class) 500 0) most 0 classes,
-      )
+  unfolding unit_droppings
+  unit-bounded meters = droppings-bounded (loss_of meters)
 
 -- the droppings of all units are as promised
 pub losses-reconciled : (shapes : List ℕ) {meters : List Row} → Each (RowBounds shapes) meters → LossesReconciled shapes meters (all_droppings shapes meters)

@@ -2,7 +2,7 @@
 use Prim.Native.Nat.{ℕ, zero, suc, ◌<◌}
 use mathlib.Core.Path.{◌≡◌, refl, sym, ap, subst, ◌∙◌}
 use mathlib.Core.List.{List}
-use mathlib.Core.Bool.{not}
+use mathlib.Core.Bool.{Bool, not}
 use lib.ListN.{length, get_or, take}
 use lib.IntN.{ℤ, pos, nat_abs, ◌-ℤ◌, ◌*ℤ◌}
 use lib.Dec.{ltb}
@@ -11,21 +11,19 @@ use Rattle.refusals.specs.Causes.{accepted}
 use Rattle.refusals.proofs.Passed.{passed}
 use Rattle.integers.specs.Sum.{sum}
 use Rattle.book.specs.Book.{Book, used_rows, well_formed}
-use Rattle.book.specs.Settings.{take_is_set}
 use Rattle.cells.specs.Cells.{units}
 use Rattle.cells.specs.Energy.{any_lacks_shape}
+use Rattle.cells.proofs.Counting.{counted-length}
+use Rattle.cells.proofs.RowBounds.{book-bounds}
 use Rattle.correction.specs.declared.UnitSums.{UnitSums}
-use Rattle.correction.specs.Correction.{weighted_total, sums_cause}
-use Rattle.correction.specs.Volumes.{volumes_of}
-use Rattle.correction.specs.Outcome.{volumes_written}
+use Rattle.correction.specs.Correction.{weighted_total}
+use Rattle.correction.specs.Volumes.{volumes_of, with_volumes}
 use Rattle.correction.proofs.Apportioned.{numerators_of}
-use Rattle.correction.proofs.Outcome.{corrected-distance, corrected-slice, corrected-total, corrected-volumes}
 use Rattle.allocation.specs.declared.Allocated.{Allocated}
 use Rattle.allocation.specs.Losses.{LossesReconciled}
-use Rattle.allocation.specs.Allocate.{all_unit_sums, allocation_cause, Allocation, figures_of, allocation_outcome, allocate_call, meters_cause}
-use Rattle.allocation.proofs.Bounds.{book-limited}
+use Rattle.allocation.specs.Allocate.{unit_sums, all_unit_sums, cause_from, allocation_cause, Allocation, figures_of, allocation_outcome, allocate_call, meters_cause}
 use Rattle.allocation.proofs.Losses.{losses-reconciled}
-use Rattle.allocation.proofs.Steps.{sums-length}
+use Rattle.allocation.proofs.Settled.{settled-volumes, settled-total, settled-distance}
 
 -- the number given is the cause
 pub number-given : (b : Book) (slice : List ℤ) → (allocate_call b slice).answer.number ≡ allocation_cause b slice
@@ -36,14 +34,12 @@ number-given b slice = by (allocation_cause b slice)
     by zero = refl
     by (suc k) = refl
 
--- what comes after causes 1 and 7 to 9 in an accepted allocation
-sums-pass : (b : Book) (slice : List ℤ) → allocation_cause b slice ≡ accepted → sums_cause b.settings.take_wh b.settings.tolerance (all_unit_sums b.settings (used_rows b)) ≡ accepted
-unfolding allocation_cause meters_cause
-sums-pass b slice h =
+-- causes 8 to 11 of an accepted allocation
+meters-pass : (b : Book) (slice : List ℤ) → allocation_cause b slice ≡ accepted → meters_cause b.settings (used_rows b) ≡ accepted
+unfolding allocation_cause
+meters-pass b slice h =
     let formed = passed (not (well_formed b)) _ _ h in
-    let long = passed (ltb (length slice) units) _ _ formed.1 in
-    let set = passed (not (take_is_set b.settings)) _ _ long.1 in
-    (passed (any_lacks_shape b.settings.shapes (used_rows b)) _ _ set.1).1
+    (passed (ltb (length slice) units) _ _ formed.1).1
 
 -- the sums of a book's units
 abbrev pub sums_of : Book → List UnitSums
@@ -57,18 +53,20 @@ module _ (b : Book) (slice : List ℤ) (h : (allocate_call b slice).answer.numbe
   unfolding allocate_call
   outcome-is = ap (λ (cause : ℕ). allocation_outcome cause b slice) no-cause
 
-  -- its sums are corrected
-  corrected : sums_cause b.settings.take_wh b.settings.tolerance (sums_of b) ≡ accepted
-  corrected = sums-pass b slice no-cause
+  abbrev lacks : Bool
+  lacks = any_lacks_shape b.settings.shapes (used_rows b)
 
-  slice_is : (allocate_call b slice).volumes ≡ volumes_written b.settings.take_wh b.settings.tolerance (sums_of b) slice
+  pass : cause_from b.settings lacks (sums_of b) ≡ accepted
+  unfolding meters_cause
+  pass = meters-pass b slice no-cause
+
+  written : (allocate_call b slice).volumes ≡ with_volumes (volumes_of b.settings.take_wh (sums_of b)) slice
   unfolding allocation_outcome
-  slice_is =
-      ap (λ (o : Allocation). o.volumes) outcome-is
-      ∙ sym (corrected-slice b.settings.take_wh b.settings.tolerance (sums_of b) corrected slice)
+  written = ap (λ (o : Allocation). o.volumes) outcome-is
 
   long : length (sums_of b) ≡ units
-  long = sums-length b.settings (used_rows b)
+  unfolding all_unit_sums
+  long = counted-length (unit_sums b.settings (used_rows b)) units
 
   pub accepted-answer : (allocate_call b slice).answer ≡ figures_of b.settings (used_rows b)
   unfolding allocation_outcome
@@ -80,15 +78,15 @@ module _ (b : Book) (slice : List ℤ) (h : (allocate_call b slice).answer.numbe
   accepted-losses =
       let formed = not-false (well_formed b) (passed (not (well_formed b)) _ _ no-cause).0 in
       subst (λ (a : Allocated). LossesReconciled b.settings.shapes (used_rows b) a.droppings) (sym accepted-answer)
-      (losses-reconciled b.settings.shapes (book-limited b formed).rows)
+      (losses-reconciled b.settings.shapes (book-bounds b formed))
 
   pub accepted-volumes : take units (allocate_call b slice).volumes ≡ volumes_of b.settings.take_wh (sums_of b)
-  accepted-volumes = ap (take units) slice_is ∙ corrected-volumes b.settings.take_wh b.settings.tolerance (sums_of b) corrected slice long
+  accepted-volumes = settled-volumes b.settings lacks (sums_of b) long pass slice written
 
   pub accepted-total : sum (take units (allocate_call b slice).volumes) ≡ b.settings.take_wh
-  accepted-total = ap (λ (v : List ℤ). sum (take units v)) slice_is ∙ corrected-total b.settings.take_wh b.settings.tolerance (sums_of b) corrected slice long
+  accepted-total = settled-total b.settings lacks (sums_of b) long pass slice written
 
   pub accepted-distance : (unit : ℕ) → unit < units
       → nat_abs (get_or (allocate_call b slice).volumes unit (pos 0) *ℤ weighted_total (sums_of b) -ℤ get_or (numerators_of b.settings.take_wh (sums_of b)) unit (pos 0))
       < nat_abs (weighted_total (sums_of b))
-  accepted-distance unit p = rw slice_is (corrected-distance b.settings.take_wh b.settings.tolerance (sums_of b) corrected slice long unit p)
+  accepted-distance = settled-distance b.settings lacks (sums_of b) long pass slice written

@@ -2,14 +2,9 @@
 use Rattle.std.specs.Prelude.{ℕ, ◌-◌, ◌≤◌, ◌<◌, ◌≡◌, cond, List, map, eqb, ℤ, pos, neg_ℤ, nat_abs, ◌+ℤ◌, ◌*ℤ◌, length, get_or, replicate}
 use Rattle.integers.specs.Rounding.{dropped_thousandths}
 use Rattle.words.specs.Registration.{direction_of, unit_of}
-use Rattle.book.specs.Limits.{classes}
 use Rattle.book.specs.Rows.{Row}
-use Rattle.cells.specs.Cells.{units, is_loss_class, loss_thousandths, sum_over, loss_cell, cell, count_from, sum_below}
-use Rattle.correction.specs.Correction.{by_direction}
-
--- "import minus export", of what each loss class of a unit has
-abbrev pub over_losses : (ℕ → ℤ) → ℤ
-over_losses f = sum_below classes (λ class. cond (is_loss_class class) (by_direction class (f class)) (pos 0))
+use Rattle.cells.specs.Cells.{units, loss_thousandths, sum_over, loss_cell, cell, count_from}
+use Rattle.correction.specs.Correction.{over_losses}
 
 -- "Rounding a loss cell now also tells how many thousandths of a Wh it dropped": of the loss cell of a unit, at its loss class
 abbrev pub cell_dropped : List ℕ → List Row → ℕ → ℕ → ℤ

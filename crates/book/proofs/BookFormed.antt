@@ -1,5 +1,5 @@
--- A setting in range, and well-formed rows within capacity, leave a well-formed book well formed.
-use Prim.Native.Nat.{ℕ, ◌≤◌}
+-- A fresh book is well formed; a setting in range, and well-formed rows within capacity, leave a well-formed book well formed.
+use Prim.Native.Nat.{ℕ, ◌≤◌, zero-le}
 use mathlib.Core.Path.{◌≡◌, refl}
 use mathlib.Core.Bool.{true, and-eq-true_iff}
 use mathlib.Core.List.{List}
@@ -10,9 +10,10 @@ use Rattle.book.specs.declared.Setting.{Setting}
 use Rattle.book.specs.declared.Setting.TheVariants.{Shape, Weight, Tolerance, GroupTake}
 use Rattle.book.specs.Limits.{classes, categories}
 use Rattle.book.specs.Settings.{is_weight, is_shape, take_formed, fresh_settings, settings_formed, setting_in_range, with_setting, with_meters}
-use Rattle.book.specs.Rows.{Row, capacity, rows_formed, written}
-use Rattle.book.specs.Book.{Book, used_rows, well_formed, with_rows}
+use Rattle.book.specs.Rows.{Row, capacity, rows_of, rows_formed, written}
+use Rattle.book.specs.Book.{Book, fresh_book, used_rows, well_formed, with_rows}
 use Rattle.book.proofs.AllOf.{all_set}
+use Rattle.book.proofs.Rising.{formed-none}
 use Rattle.book.proofs.WellFormed.{room, FormedBook, formed-book, book-formed, formed-settings, settings-formed}
 use Rattle.book.proofs.Written.{length-written, rows-of-written}
 
@@ -56,6 +57,11 @@ meters-formed n s f = f
 pub fresh-formed : settings_formed fresh_settings ≡ true
 unfolding settings_formed take_formed
 fresh-formed = refl
+
+-- "it starts from the fresh settings and that slice, whatever its length and words"
+pub fresh-book-formed : (words : List ℕ) → well_formed (fresh_book words) ≡ true
+unfolding used_rows rows_of
+fresh-book-formed words = book-formed (fresh_book words) (record { within = zero-le; settings-formed = fresh-formed; rows-formed = formed-none 0 })
 
 pub capacity-same : (words more : List ℕ) → length words ≡ length more → capacity words ≡ capacity more
 unfolding capacity

@@ -9,7 +9,6 @@ pub mod Written
 pub mod WithRegistration
 pub mod WithReading
 pub mod HeldIn
-pub mod Storing
 pub mod Inserted
 pub mod Parts
 pub mod BookFormed

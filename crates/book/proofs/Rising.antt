@@ -30,15 +30,19 @@ pub formed-none : (before : ℕ) → rows_formed before [] ≡ true
 unfolding rows_formed
 formed-none before = refl
 
+pub row_words : (r : Row) → is_row r ≡ true → Words r
+row_words r h =
+    let w = (and-eq-true_iff (is_mpan r.mpan && is_registration r.registration) (is_reading r.reading)).0 h in
+    let v = (and-eq-true_iff (is_mpan r.mpan) (is_registration r.registration)).0 w.0 in
+    record { mpan-formed = v.0; registration-formed = v.1; reading-formed = w.1 }
+
 pub formed-first : (before : ℕ) (r : Row) (rows : List Row) → rows_formed before (r ∷ rows) ≡ true → First before r rows
 unfolding rows_formed
 formed-first before r rows h =
     let a = (and-eq-true_iff (is_row r && ltb before r.mpan) (rows_formed r.mpan rows)).0 h in
     let b = (and-eq-true_iff (is_row r) (ltb before r.mpan)).0 a.0 in
-    let w = (and-eq-true_iff (is_mpan r.mpan && is_registration r.registration) (is_reading r.reading)).0 b.0 in
-    let v = (and-eq-true_iff (is_mpan r.mpan) (is_registration r.registration)).0 w.0 in
     record {
-      words = record { mpan-formed = v.0; registration-formed = v.1; reading-formed = w.1 };
+      words = row_words r b.0;
       above = ltb-true before r.mpan b.1;
       after = a.1;
     }

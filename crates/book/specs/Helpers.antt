@@ -1,5 +1,5 @@
 -- What the functions below the calls are held to: places of rows, and what storing leaves.
-use Rattle.std.specs.Prelude.{ℕ, zero, suc, ◌*◌, ◌≤◌, ◌≡◌, Bool, true, ◌||◌, cond, Option, Some, None, Result, Ok, Err, IfOk, List, [], ◌∷◌, leb, ltb, eqb, length}
+use Rattle.std.specs.Prelude.{ℕ, zero, suc, ◌*◌, ◌≤◌, ◌≡◌, Bool, true, ◌||◌, cond, Option, Some, None, Result, Ok, Err, List, [], ◌∷◌, leb, ltb, eqb, length}
 use Rattle.refusals.specs.declared.Refusal.{Refusal}
 use Rattle.refusals.specs.declared.Refusal.TheVariants.{ArgumentOutOfRange}
 use Rattle.refusals.specs.Causes.{accepted}
@@ -12,9 +12,8 @@ use Rattle.book.specs.declared.Settings.{Settings}
 use Rattle.book.specs.declared.Setting.{Setting}
 use Rattle.book.specs.declared.Answer.{Answer}
 use Rattle.book.specs.declared.Held.{Held}
-use Rattle.book.specs.declared.Stored.{Stored}
 use Rattle.book.specs.Settings.{setting_in_range, with_setting}
-use Rattle.book.specs.Rows.{Row, capacity, rows_of, rows_formed, is_known, with_registration, with_reading, written}
+use Rattle.book.specs.Rows.{Row, capacity, rows_of, rows_formed, is_known, with_registration, with_reading}
 use Rattle.book.specs.Store.{register_in_range, word_cause, registration_cause, reading_cause}
 
 -- the row of these words
@@ -75,19 +74,6 @@ registration_storing capacity m r rows = storing (registration_cause capacity m 
 
 unfoldable pub reading_storing : ℕ → Reading → List Row → Storing
 reading_storing m r rows = storing (reading_cause m r rows) (with_reading m (reading_word r) rows) rows
-
--- what is told where rows took what was to be stored: the meters then, and what the meter m held and holds
-pub record Tells (m : ℕ) (given made : List Row) (stored : Stored) : Type 0 where
-  pub meters : stored.meters ≡ length made
-  pub before : stored.before ≡ held_in m given
-  pub after : Some stored.after ≡ held_in m made
-
--- what a function that stores leaves, of the first rows of a slice: the number and what is told, and the slice with every word after
--- the rows as it was
-pub record Stores (m : ℕ) (store : List Row → Storing) (meters : ℕ) (words : List ℕ) (outcome : Result Stored Refusal) (words_after : List ℕ) : Type 0 where
-  pub number : number_given outcome ≡ (store (rows_of meters words)).number
-  pub told : IfOk outcome (Tells m (rows_of meters words) (store (rows_of meters words)).rows)
-  pub slice : words_after ≡ written (store (rows_of meters words)).rows words
 
 -- what replacing a setting gives
 unfoldable pub setting_replaced : Setting → Settings → Result Settings Refusal

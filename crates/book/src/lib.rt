@@ -1,5 +1,5 @@
-// The state of the book of one GSP Group and one Settlement Period: its settings and its rows, the test that they are well formed,
-// and how a setting, a registration or a reading is stored in them.
+// The state of the book of one GSP Group and one Settlement Period: its settings and its rows, the test that they are well formed, how a
+// setting is replaced, and where a row stands or is put.
 #![tactic(auto)]
 
 ghost use Rattle.std.specs.Prelude.{◌≡◌};
@@ -12,7 +12,6 @@ pub mod formed;
 pub mod ranges;
 pub mod replace;
 pub mod rows;
-pub mod store;
 
 // The settings, passed in and returned. Whatever bytes a C program passes are numbers that the contracts speak of, and the order of
 // the fields leaves no padding.
@@ -65,15 +64,6 @@ pub enum Setting {
 pub struct Held {
     pub registration: u64,
     pub reading: u64,
-}
-
-// What storing a registration or a reading gives: how many meters there are then, and what the meter held before, if it had a row, and
-// holds after, so that a caller can work out the change.
-#[derive(Clone, Copy)]
-pub struct Stored {
-    pub meters: usize,
-    pub before: Option<Held>,
-    pub after: Held,
 }
 
 impl Settings {

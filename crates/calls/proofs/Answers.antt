@@ -1,108 +1,154 @@
--- What a call answers: on an ill-formed book, and where a setting was replaced, or a registration or a reading stored, in a well-formed one.
+-- What a call on a book with its running cells answers: refused for what is lent, and on a book and cells that are lent well, where a registration or a reading was stored, or a setting replaced.
 use Prim.Native.Nat.{ℕ, zero, suc}
-use mathlib.Core.Path.{◌≡◌, refl, ◌∙◌, ap}
-use mathlib.Core.Bool.{true, false}
+use mathlib.Core.Path.{◌≡◌, refl, ap, ◌∙◌}
+use mathlib.Core.Bool.{true}
 use mathlib.Core.List.{List}
 use native.Mathlib.Omega.{arith}
-use Rattle.std.specs.Prelude.{Result, Ok, Err}
+use lib.IntN.{ℤ, ◌-ℤ◌}
+use lib.ListN.{length}
+use Rattle.std.specs.Prelude.{Result, Ok, Err, IfOk}
 use Rattle.refusals.specs.declared.Refusal.{Refusal}
-use Rattle.refusals.specs.Causes.{book_ill_formed}
-use Rattle.refusals.specs.Refusal.{number_of}
+use Rattle.refusals.specs.Refusal.{number_of, number_given}
 use Rattle.refusals.proofs.Numbers.{not-accepted}
 use Rattle.words.specs.declared.Registration.{Registration}
 use Rattle.words.specs.declared.Reading.{Reading}
 use Rattle.words.specs.Registration.{registration_word}
 use Rattle.words.specs.Reading.{reading_word}
-use Rattle.words.proofs.Tests.{by-test}
 use Rattle.book.specs.declared.Settings.{Settings}
 use Rattle.book.specs.declared.Setting.{Setting}
-use Rattle.book.specs.declared.Stored.{Stored}
-use Rattle.book.specs.Settings.{with_meters, with_setting, setting_in_range, setting_cause}
-use Rattle.book.specs.Rows.{Row, capacity, rows_of, with_registration, with_reading}
-use Rattle.book.specs.Book.{Book, lent, used_rows, well_formed, with_rows}
+use Rattle.book.specs.Settings.{with_meters, with_setting, setting_cause, settings_formed}
+use Rattle.book.specs.Rows.{Row, capacity, rows_of, with_registration, with_reading, written}
+use Rattle.book.specs.Book.{lent, used_rows, well_formed, with_rows}
 use Rattle.book.specs.Store.{registration_cause, reading_cause}
-use Rattle.book.specs.Helpers.{Storing, storing, registration_storing, reading_storing, RowsReady, Stores, setting_replaced, answer_of}
+use Rattle.book.specs.Helpers.{RowsReady, Storing, storing, registration_storing, reading_storing, answer_of}
 use Rattle.book.proofs.BookFormed.{count_kept}
-use Rattle.book.proofs.WellFormed.{room, rows-ready}
-use Rattle.book.proofs.Written.{written_same}
+use Rattle.book.proofs.WellFormed.{room, rows-ready, formed-book}
+use Rattle.book.proofs.Written.{written_same, rows-of-written}
+use Rattle.running.specs.Words.{word_in, sum_in}
+use Rattle.running.specs.Running.{running_of, with_change, change_in, kept_up, within_limits, lent_cause, limit_cause}
+use Rattle.running.specs.Helpers.{rows_change, kept_by}
+use Rattle.running.proofs.Changed.{changed-same}
+use Rattle.running.proofs.TestedFirst.{LentWell}
 use Rattle.calls.specs.declared.Call.{Call}
 use Rattle.calls.specs.declared.Call.TheVariants.{Register, Record, Set}
-use Rattle.calls.specs.Calls.{outcome, cause_after_test, call_cause, book_made, call_outcome, Gives}
-use Rattle.calls.specs.Helpers.{answer_counted, LentRows, Registers, Records}
+use Rattle.calls.specs.Calls.{cause_after_test, book_made}
+use Rattle.calls.specs.Running.{running_made, running_cause, running_outcome, running_call, RunningGives}
+use Rattle.calls.specs.Stores.{storing_kept, kept_storing, Stores}
+use Rattle.calls.specs.Helpers.{answer_counted, LentRows, Registers, Records, InAnyOrder, setting_change, SetKept}
+use Rattle.calls.proofs.ListOfCalls.{call-refused}
+use Rattle.calls.proofs.SettingKept.{shapes-formed}
 
--- any call on an ill-formed book is refused for it
-pub call-on-ill-formed : (b : Book) → well_formed b ≡ false → (c : Call) → call_outcome b c ≡ record { number = book_ill_formed; book = b }
-unfolding call_outcome call_cause outcome
-call-on-ill-formed b h c = rw h
+-- refused for what is lent
+pub gives-unlent : (s : Settings) (words : List ℕ) (cells : List ℤ) (c : Call) (refusal : Refusal)
+    → ((rest : ℕ) → lent_cause (running_of s words cells) rest ≡ number_of refusal)
+    → RunningGives (running_call (running_of s words cells) c) (record { number = number_of refusal; settings = s }) words cells
+gives-unlent s words cells c refusal first =
+    rw (call-refused (running_of s words cells) first (not-accepted refusal) c) (record { number = refl; settings = refl; rows = refl; cells = refl })
 
-pub gives-ill-formed : (s : Settings) (words : List ℕ) → well_formed (lent s words) ≡ false → (c : Call) → Gives (call_outcome (lent s words) c) (record { number = book_ill_formed; settings = s }) words
-gives-ill-formed s words h c = rw (call-on-ill-formed (lent s words) h c) (record { number = refl; settings = refl; rows = refl })
+-- a book and cells that are lent well
+module _ {s : Settings} {words : List ℕ} {cells : List ℤ} {size : ℕ} (l : LentWell (running_of s words cells) size) where
+  -- the causes of the call are left, and the limit after them
+  pub call-left : (c : Call) → running_call (running_of s words cells) c
+      ≡ running_outcome (limit_cause (cause_after_test (lent s words) c) (within_limits (running_made (running_of s words cells) c).cells)) (running_made (running_of s words cells) c) (running_of s words cells)
+  unfolding running_call running_cause
+  call-left c = rw (l.first (limit_cause (cause_after_test (lent s words) c) (within_limits (running_made (running_of s words cells) c).cells))) refl
 
-module _ (s : Settings) (words : List ℕ) (wf : well_formed (lent s words) ≡ true) where
-  -- a setting replaced
-  pub gives-replaced : (x : Setting) {result : Result Settings Refusal} → result ≡ setting_replaced x s → Gives (call_outcome (lent s words) (Set x)) (answer_of s result) words
-  unfolding call_outcome call_cause cause_after_test book_made setting_cause setting_replaced outcome
-  gives-replaced x e =
-      by-test (setting_in_range x)
-      (λ h. rw (e, wf, h) (record { number = refl; settings = refl; rows = refl }))
-      (λ h. rw (e, wf, h) (record { number = refl; settings = refl; rows = refl }))
-
-  pub gives-setting : (x : Setting) → Gives (call_outcome (lent s words) (Set x)) (answer_of s (setting_replaced x s)) words
-  gives-setting x = gives-replaced x refl
-
-  -- what was stored, by its cause
-  by-cause : (cause m : ℕ) (made : List Row) (stored : Result Stored Refusal) {words_after : List ℕ} {store : List Row → Storing}
-      → store (rows_of s.meters words) ≡ storing cause made (rows_of s.meters words) → Stores m store s.meters words stored words_after
-      → Gives (outcome cause (with_rows made (lent s words)) (lent s words)) (answer_counted s stored) words_after
-  unfolding storing outcome
-  by-cause zero m made (Ok told-so) e x =
-      let told = rw e at x.told in
-      record { number = refl; settings = ap (λ (n : ℕ). with_meters n s) told.meters; rows = rw e at x.slice }
-  by-cause zero m made (Err refusal) e x = absurd (not-accepted refusal (rw e at x.number))
-  by-cause (suc k) m made (Ok told-so) e x = let n = rw e at x.number in absurd (omega arith)
-  by-cause (suc k) m made (Err refusal) e x =
+  -- what was stored, by the number given
+  by-number : (n : ℕ) (made : List Row) (change : ℕ → ℤ) (outcome : Result ℕ Refusal) {words_after : List ℕ} {cells_after : List ℤ}
+      → number_given outcome ≡ (storing_kept n made (rows_of s.meters words) change cells).number
+      → IfOk outcome (λ (k : ℕ). k ≡ length (storing_kept n made (rows_of s.meters words) change cells).rows)
+      → words_after ≡ written (storing_kept n made (rows_of s.meters words) change cells).rows words
+      → cells_after ≡ (storing_kept n made (rows_of s.meters words) change cells).cells
+      → RunningGives (running_outcome n (record { book = with_rows made (lent s words); cells = with_change change cells }) (running_of s words cells)) (answer_counted s outcome) words_after cells_after
+  unfolding storing_kept running_outcome
+  by-number zero made change (Ok k) number counted slice kept =
+      record { number = refl; settings = ap (λ (j : ℕ). with_meters j s) counted; rows = slice; cells = kept }
+  by-number zero made change (Err refusal) number counted slice kept = absurd (not-accepted refusal number)
+  by-number (suc n) made change (Ok k) number counted slice kept = absurd (omega arith)
+  by-number (suc n) made change (Err refusal) number counted slice kept =
       record {
-        number = rw e at x.number;
+        number = number;
         settings = refl;
-        rows = (rw e at x.slice) ∙ written_same s.meters words (room words s.meters (rows-ready s words wf).within-capacity);
+        rows = slice ∙ written_same s.meters words (room words s.meters (rows-ready s words l.formed).within-capacity);
+        cells = kept;
       }
 
--- a call on a book that was tested, whose rows have as many meters as its settings say
-module _ (s : Settings) (rows : LentRows) (wf : well_formed (lent s rows.words) ≡ true) (count : s.meters ≡ rows.meters) where
-  pub ready-in : RowsReady rows.meters rows.words
-  ready-in = rw (← count) (rows-ready s rows.words wf)
+  -- what storing rows changes in the sums is what the book that it makes changes
+  change-same : (made : List Row) → (kept_up (running_of s words cells) (with_rows made (lent s words))).cells ≡ with_change (rows_change s.shapes (rows_of s.meters words) made) cells
+  unfolding change_in used_rows
+  change-same made =
+      changed-same _ cells (rows_change s.shapes (rows_of s.meters words) made)
+      (λ k h. ap (λ (rows : List Row). sum_in s.shapes rows k -ℤ sum_in s.shapes (rows_of s.meters words) k) (rows-of-written (length made) made words refl))
 
-  module _ {m : ℕ} {stored : Result Stored Refusal} {after : LentRows} where
-    pub gives-registered : (r : Registration) → Registers m r rows stored after → Gives (call_outcome (lent s rows.words) (Register m r)) (answer_counted s stored) after.words
-    unfolding call_outcome call_cause cause_after_test book_made registration_storing used_rows
-    gives-registered r x =
-        let given = rows_of s.meters rows.words in
-        let stores : Stores m (registration_storing (capacity rows.words) m r) s.meters rows.words stored after.words = rw count x.stores in
-        rw wf (by-cause s rows.words wf (registration_cause (capacity rows.words) m r given) m (with_registration m (registration_word r) given) stored refl stores)
+  -- what was stored, by its cause
+  by-cause : (cause : ℕ) (made : List Row) (outcome : Result ℕ Refusal) {words_after : List ℕ} {cells_after : List ℤ} {store : List Row → Storing}
+      → store (rows_of s.meters words) ≡ storing cause made (rows_of s.meters words)
+      → Stores store s.shapes s.meters words cells outcome words_after cells_after
+      → RunningGives
+      (running_outcome (limit_cause cause (within_limits (kept_up (running_of s words cells) (with_rows made (lent s words))).cells)) (kept_up (running_of s words cells) (with_rows made (lent s words))) (running_of s words cells))
+      (answer_counted s outcome) words_after cells_after
+  unfolding storing kept_storing limit_cause running_outcome
+  by-cause zero made outcome e x =
+      rw (change-same made)
+      (by-number (limit_cause zero (within_limits (with_change (rows_change s.shapes (rows_of s.meters words) made) cells))) made (rows_change s.shapes (rows_of s.meters words) made) outcome
+      (rw e at x.number) (rw e at x.counted) (rw e at x.slice) (rw e at x.cells_are))
+  by-cause (suc n) made outcome e x =
+      let given = rows_of s.meters words in
+      by-number (suc n) given (rows_change s.shapes given given) outcome (rw e at x.number) (rw e at x.counted) (rw e at x.slice) (rw e at x.cells_are)
 
-    pub gives-recorded : (r : Reading) → Records m r rows stored after → Gives (call_outcome (lent s rows.words) (Record m r)) (answer_counted s stored) after.words
-    unfolding call_outcome call_cause cause_after_test book_made reading_storing used_rows
-    gives-recorded r x =
-        let given = rows_of s.meters rows.words in
-        let stores : Stores m (reading_storing m r) s.meters rows.words stored after.words = rw count x.stores in
-        rw wf (by-cause s rows.words wf (reading_cause m r given) m (with_reading m (reading_word r) given) stored refl stores)
+-- the rows of a book whose settings say how many meters have one
+pub ready-in : (s : Settings) (rows : LentRows) → s.meters ≡ rows.meters → well_formed (lent s rows.words) ≡ true → RowsReady rows.meters rows.words
+ready-in s rows count wf = rw (← count) (rows-ready s rows.words wf)
 
--- a refused call leaves the settings
-refused-by-cause : (cause : ℕ) (b made : Book) (refusal : Refusal) {s : Settings} {words : List ℕ} → Gives (outcome cause made b) (record { number = number_of refusal; settings = s }) words → Gives (outcome cause made b) (record { number = number_of refusal; settings = b.settings }) words
-unfolding outcome
-refused-by-cause zero b made refusal g = absurd (not-accepted refusal g.number)
-refused-by-cause (suc k) b made refusal g = record { number = g.number; settings = refl; rows = g.rows }
+-- and the settings of such a book
+pub settings-in : (s : Settings) (words : List ℕ) → well_formed (lent s words) ≡ true → settings_formed s ≡ true
+settings-in s words wf = (formed-book (lent s words) wf).settings-formed
 
-pub refused-settings : (b : Book) (c : Call) (refusal : Refusal) {s : Settings} {words : List ℕ} → Gives (call_outcome b c) (record { number = number_of refusal; settings = s }) words → Gives (call_outcome b c) (record { number = number_of refusal; settings = b.settings }) words
-unfolding call_outcome
-refused-settings b c refusal g = refused-by-cause (call_cause b c) b (book_made b c) refusal g
+-- a call on the rows as those of one book
+module _ {s : Settings} {rows : LentRows} {cells : List ℤ} {size : ℕ} (l : LentWell (running_of s rows.words cells) size) (count : s.meters ≡ rows.meters) (m : ℕ) {outcome : Result ℕ Refusal} {after : LentRows} {cells_after : List ℤ} where
+  pub gives-registered : (r : Registration) → Registers m r s.shapes rows cells outcome after cells_after
+      → RunningGives (running_call (running_of s rows.words cells) (Register m r)) (answer_counted s outcome) after.words cells_after
+  unfolding cause_after_test book_made registration_storing used_rows
+  gives-registered r x =
+      let given = rows_of s.meters rows.words in
+      let stores : Stores (registration_storing (capacity rows.words) m r) s.shapes s.meters rows.words cells outcome after.words cells_after = rw count x.stores in
+      rw (call-left l (Register m r)) (by-cause l (registration_cause (capacity rows.words) m r given) (with_registration m (registration_word r) given) outcome refl stores)
 
--- replacing a setting keeps the number of meters
-pub replaced-count : (x : Setting) (s : Settings) {made : Settings} → Ok made ≡ setting_replaced x s → made.meters ≡ s.meters
-unfolding setting_replaced
-replaced-count x s {made} e =
-    by-test (setting_in_range x)
-    (λ h. let same : made ≡ with_setting x s = cc in rw same (count_kept x s))
-    (λ h. absurd (cc))
+  pub gives-recorded : (r : Reading) → Records m r s.shapes rows cells outcome after cells_after
+      → RunningGives (running_call (running_of s rows.words cells) (Record m r)) (answer_counted s outcome) after.words cells_after
+  unfolding cause_after_test book_made reading_storing used_rows
+  gives-recorded r x =
+      let given = rows_of s.meters rows.words in
+      let stores : Stores (reading_storing m r) s.shapes s.meters rows.words cells outcome after.words cells_after = rw count x.stores in
+      rw (call-left l (Record m r)) (by-cause l (reading_cause m r given) (with_reading m (reading_word r) given) outcome refl stores)
 
-pub ruleset made = (ready-in, gives-setting, gives-ill-formed, replaced-count, refused-settings)
+-- a setting replaced, by the number given
+module _ {s : Settings} {words : List ℕ} {cells : List ℤ} {size : ℕ} (l : LentWell (running_of s words cells) size) (x : Setting) where
+  set-by : (n : ℕ) (change : ℕ → ℤ) (outcome : Result Settings Refusal) {cells_after : List ℤ} → number_given outcome ≡ n → IfOk outcome (λ (made : Settings). made ≡ with_setting x s)
+      → cells_after ≡ kept_by n change cells
+      → RunningGives (running_outcome n (record { book = record { settings = with_setting x s; rows = words }; cells = with_change change cells }) (running_of s words cells)) (answer_of s outcome) words cells_after
+  unfolding kept_by running_outcome
+  set-by zero change (Ok made) number settings kept = record { number = refl; settings = settings; rows = refl; cells = kept }
+  set-by zero change (Err refusal) number settings kept = absurd (not-accepted refusal number)
+  set-by (suc n) change (Ok made) number settings kept = absurd (omega arith)
+  set-by (suc n) change (Err refusal) number settings kept = record { number = number; settings = refl; rows = refl; cells = kept }
+
+  -- the change of the cells is the same, in whatever order the rows were looked at
+  set-change : {listed : List Row} → InAnyOrder (rows_of s.meters words) listed → (running_made (running_of s words cells) (Set x)).cells ≡ with_change (setting_change s listed x) cells
+  unfolding change_in book_made used_rows setting_change sum_in
+  set-change {listed} same =
+      changed-same _ cells (setting_change s listed x)
+      (λ k h. rw (count_kept x s, same.same_sums (word_in (with_setting x s).shapes k), same.same_sums (word_in s.shapes k)) refl)
+
+  pub gives-set : {listed : List Row} {outcome : Result Settings Refusal} {cells_after : List ℤ} → InAnyOrder (rows_of s.meters words) listed → SetKept s listed cells x outcome cells_after
+      → RunningGives (running_call (running_of s words cells) (Set x)) (answer_of s outcome) words cells_after
+  unfolding cause_after_test book_made
+  gives-set {listed} {outcome} same kept =
+      rw (call-left l (Set x), set-change same)
+      (set-by (limit_cause (setting_cause x) (within_limits (with_change (setting_change s listed x) cells))) (setting_change s listed x) outcome kept.number kept.settings (rw (← kept.number) kept.cells_are))
+
+  pub set-count : {listed : List Row} {made : Settings} {cells_after : List ℤ} → SetKept s listed cells x (Ok made) cells_after → made.meters ≡ s.meters
+  set-count kept = rw kept.settings (count_kept x s)
+
+-- for the search for a proof
+pub ruleset made = (ready-in, settings-in, shapes-formed)

@@ -26,7 +26,6 @@ use Rattle.book.proofs.StoredFormed.{rows-registered, rows-read}
 use Rattle.calls.specs.declared.Call.{Call}
 use Rattle.calls.specs.declared.Call.TheVariants.{Register, Record, Set}
 use Rattle.calls.specs.Calls.{outcome, cause_after_test, call_cause, book_made, call_outcome, book_after, numbers_given}
-use Rattle.calls.proofs.Answers.{call-on-ill-formed}
 use Rattle.calls.proofs.RegisterCall.{register-out-of-range, register-no-room, register-known, register-new}
 use Rattle.calls.proofs.ReadingCall.{reading-out-of-range, reading-of-refused-quality, reading-of-unknown-meter, reading-not-above, reading-above}
 
@@ -98,13 +97,18 @@ module _ (b : Book) (wf : well_formed b ≡ true) where
   call-formed (Set x) = setting-keeps x
 
 module _ (b : Book) (h : well_formed b ≡ false) where
+  -- any call on an ill-formed book is refused for it
+  pub call-on-ill-formed : (c : Call) → call_outcome b c ≡ record { number = book_ill_formed; book = b }
+  unfolding call_outcome call_cause outcome
+  call-on-ill-formed c = rw h
+
   -- a whole list on an ill-formed book
   pub book-left : (calls : List Call) → book_after b calls ≡ b
   unfolding book_after
   book-left [] = refl
-  book-left (c ∷ calls) = rw (call-on-ill-formed b h c) (book-left calls)
+  book-left (c ∷ calls) = rw (call-on-ill-formed c) (book-left calls)
 
   pub numbers-ill-formed : (calls : List Call) → numbers_given b calls ≡ replicate (length calls) book_ill_formed
   unfolding numbers_given
   numbers-ill-formed [] = refl
-  numbers-ill-formed (c ∷ calls) = rw (call-on-ill-formed b h c, numbers-ill-formed calls)
+  numbers-ill-formed (c ∷ calls) = rw (call-on-ill-formed c, numbers-ill-formed calls)

@@ -1,9 +1,8 @@
 -- "The calls": the six that write the book, as total functions.
-use Rattle.std.specs.Prelude.{ℕ, zero, suc, ◌≡◌, not, List, [], ◌∷◌}
+use Rattle.std.specs.Prelude.{ℕ, zero, suc, not, List, [], ◌∷◌}
 use Rattle.refusals.specs.Causes.{refuse, accepted, book_ill_formed}
 use Rattle.words.specs.Registration.{registration_word}
 use Rattle.words.specs.Reading.{reading_word}
-use Rattle.book.specs.declared.Answer.{Answer}
 use Rattle.book.specs.Settings.{with_setting, setting_cause}
 use Rattle.book.specs.Rows.{capacity, with_registration, with_reading}
 use Rattle.book.specs.Book.{Book, used_rows, well_formed, with_rows}
@@ -50,9 +49,3 @@ book_after b (c ∷ calls) = book_after (call_outcome b c).book calls
 unfoldable pub numbers_given : Book → List Call → List ℕ
 numbers_given b [] = []
 numbers_given b (c ∷ calls) = (call_outcome b c).number ∷ numbers_given (call_outcome b c).book calls
-
--- the promise of a call: the answer and the rows afterwards are those of its outcome
-pub record Gives (o : Outcome) (answer : Answer) (rows_after : List ℕ) : Type 0 where
-  pub number : answer.number ≡ o.number
-  pub settings : answer.settings ≡ o.book.settings
-  pub rows : rows_after ≡ o.book.rows

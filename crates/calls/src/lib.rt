@@ -1,5 +1,5 @@
-// The calls that write the book. Each tests the book it is lent first, then its arguments, and gives the refusal of the lowest number that
-// applies; `make` takes a book that was tested.
+// The calls that write the book, and keep up its running cells. Each tests what it is lent first, then its arguments, and gives the first
+// refusal that applies; `make` takes a book and cells that were tested.
 #![tactic(auto)]
 
 use book::Setting;
@@ -7,6 +7,7 @@ use words::{Reading, Registration};
 
 pub mod make;
 pub mod rows;
+pub mod store;
 
 // A call with its arguments, wherever it comes from: a function call, the words of a list, or a line of a period file.
 #[derive(Clone, Copy)]

@@ -1,65 +1,122 @@
-// One call made on a lent book.
-ghost use Rattle.std.specs.Prelude.{◌≡◌, true};
+// One call made on a lent book with its running cells.
+ghost use Rattle.std.specs.Prelude.{◌≡◌, true, map};
+ghost use Rattle.book.specs.declared.Setting.TheVariants.{Shape};
+ghost use Rattle.book.specs.Settings.{settings_formed};
+ghost use Rattle.book.specs.Rows.{first_row};
 ghost use Rattle.book.specs.Book.{well_formed, lent};
 ghost use Rattle.book.specs.Helpers.{answer_of};
+ghost use Rattle.running.specs.Running.{running_of};
+ghost use Rattle.running.specs.Lent.{lent_slice, lent_cells};
+ghost use Rattle.running.specs.Helpers.{RowsHeld};
 ghost use Rattle.calls.specs.declared.Call.TheVariants.{Set};
-ghost use Rattle.calls.specs.Calls.{call_outcome, Gives};
-ghost use Rattle.calls.specs.Helpers.{answer_with};
+ghost use Rattle.calls.specs.Running.{running_call, RunningGives};
+ghost use Rattle.calls.specs.Helpers.{answer_with, keeps_cells, SetKept};
 
 use crate::Call;
 use crate::rows::{InOrder, Rows};
-use book::formed::is_formed;
 use book::replace::replace;
+use book::rows::first_rows;
 use book::{Setting, Settings};
 use refusals::Refusal;
+use running::RunningCells;
+use running::lent::test_lent;
 
-// Makes a call on a book that was tested before. A register or reading call changes no setting but the number of meters, so the settings
-// are not copied for it.
+// Makes a call on a book and cells that were tested before. A register or reading call changes no setting but the number of meters, so the
+// settings are not copied for it.
 #[tactic(auto, using(crate::proofs::Answers::made))]
-pub fn make<R: Rows>(made: &mut Settings, rows: &mut R, call: Call) -> Result<(), Refusal>
+pub fn make<R: Rows>(
+    made: &mut Settings,
+    rows: &mut R,
+    cells: &mut RunningCells<'_>,
+    call: Call,
+) -> Result<(), Refusal>
     requires formed { well_formed (lent made.old (R.lent_rows rows.old).words) ≡ true }
     requires counted { made.old.meters ≡ (R.lent_rows rows.old).meters }
     ensures same_slice { (R.lent_rows rows.new).slice ≡ (R.lent_rows rows.old).slice }
+    ensures same_cells { lent_slice cells.new ≡ lent_slice cells.old }
     ensures counted { made.new.meters ≡ (R.lent_rows rows.new).meters }
-    ensures gives { Gives (call_outcome (lent made.old (R.lent_rows rows.old).words) call) (answer_with result made.new) (R.lent_rows rows.new).words }
+    ensures gives { RunningGives (running_call (running_of made.old (R.lent_rows rows.old).words (lent_cells cells.old)) call) (answer_with result made.new) (R.lent_rows rows.new).words (lent_cells cells.new) }
 {
     match call {
         Call::Register { mpan, registration } => {
-            made.meters = rows.register(mpan, registration)?.meters;
+            made.meters = rows.register(mpan, registration, &made.shapes, cells)?;
         }
         Call::Record { mpan, reading } => {
-            made.meters = rows.record(mpan, reading)?.meters;
+            made.meters = rows.record(mpan, reading, &made.shapes, cells)?;
         }
         Call::Set(setting) => {
-            *made = replace(*made, setting)?;
+            *made = set_kept(*made, rows.all(), cells, setting)?;
         }
     }
     Ok(())
 }
 
-// Makes a call, and gives the settings afterwards. A registration is stored or replaced: a new meter gets its row in order and has no
-// reading, a known one keeps its reading. A reading is stored if its issue is above the one held, whatever the order of arrival. A
-// setting is replaced.
-#[tactic(auto, using(crate::proofs::Answers::made))]
-pub fn make_call(settings: Settings, rows: &mut [u64], call: Call) -> Result<Settings, Refusal>
-    ensures { Gives (call_outcome (lent settings rows.old) call) (answer_of settings result) rows.new }
+// Replaces a setting of a book that was tested before. A shape changes the cells of the meters that wait in its category; no other
+// setting changes a cell. It is built into its callers: else the settings would be copied to it and back for each setting of a list.
+#[inline(always)]
+fn set_kept(
+    settings: Settings,
+    rows: &[[u64; 3]],
+    cells: &mut RunningCells<'_>,
+    setting: Setting,
+) -> Result<Settings, Refusal>
+    requires rows { RowsHeld (map first_row rows.now) }
+    requires settings { settings_formed settings ≡ true }
+    ensures same_slice { lent_slice cells.new ≡ lent_slice cells.old }
+    ensures gives { SetKept settings (map first_row rows.now) (lent_cells cells.old) setting result (lent_cells cells.new) }
 {
-    if !is_formed(settings, rows) {
-        return Err(Refusal::BookIllFormed);
+    let made = replace(settings, setting)?;
+    if let Setting::Shape { category, wh } = setting {
+        cells.keep_shape(&settings.shapes, rows, category, wh)?;
     }
-    let mut made = settings;
-    let meters = settings.meters;
-    make(&mut made, &mut InOrder { rows, meters }, call)?;
     Ok(made)
 }
 
-// Makes a call that replaces a setting, on rows that are lent to be read only.
-#[tactic(auto, using(crate::proofs::Answers::made))]
-pub fn set(settings: Settings, rows: &[u64], setting: Setting) -> Result<Settings, Refusal>
-    ensures { Gives (call_outcome (lent settings rows.now) (Set setting)) (answer_of settings result) rows.now }
+// Makes a call, and gives the settings afterwards. A registration is stored or replaced: a new meter gets its row in order and has no
+// reading, a known one keeps its reading. A reading is stored if its issue is above the one held, whatever the order of arrival. A
+// setting is replaced. The running cells are kept up.
+pub fn make_call(
+    settings: Settings,
+    rows: &mut [u64],
+    cells: &mut [i64],
+    call: Call,
+) -> Result<Settings, Refusal>
+    ensures { RunningGives (running_call (running_of settings rows.old cells.old) call) (answer_of settings result) rows.new cells.new }
 {
-    if !is_formed(settings, rows) {
-        return Err(Refusal::BookIllFormed);
-    }
+    let size = test_lent(settings, rows, cells)?;
+    let mut made = settings;
+    let meters = settings.meters;
+    let mut kept = RunningCells::new(cells, size);
+    make(&mut made, &mut InOrder { rows, meters }, &mut kept, call)?;
+    Ok(made)
+}
+
+// Makes a call that replaces a shape, on rows that are lent to be read only.
+pub fn set_shape(
+    settings: Settings,
+    rows: &[u64],
+    cells: &mut [i64],
+    category: u64,
+    wh: u64,
+) -> Result<Settings, Refusal>
+    ensures { RunningGives (running_call (running_of settings rows.now cells.old) (Set (Shape category wh))) (answer_of settings result) rows.now cells.new }
+{
+    let size = test_lent(settings, rows, cells)?;
+    let mut kept = RunningCells::new(cells, size);
+    let meters = first_rows(rows, settings.meters);
+    set_kept(settings, meters, &mut kept, Setting::Shape { category, wh })
+}
+
+// Makes a call that replaces another setting, on rows and cells that are lent to be read only.
+pub fn set(
+    settings: Settings,
+    rows: &[u64],
+    cells: &[i64],
+    setting: Setting,
+) -> Result<Settings, Refusal>
+    requires { keeps_cells setting ≡ true }
+    ensures { RunningGives (running_call (running_of settings rows.now cells.now) (Set setting)) (answer_of settings result) rows.now cells.now }
+{
+    test_lent(settings, rows, cells)?;
     replace(settings, setting)
 }

@@ -10,76 +10,19 @@ use lib.ListN.{length}
 use lib.IntN.{ℤ, pos, nat_abs}
 use borrow.Author.Tests.{eqb-true, eq-eqb}
 use Rattle.integers.specs.Sum.{sum}
-use Rattle.integers.specs.Rounding.{nearest_wh}
 use Rattle.integers.proofs.Size.{size-plus}
-use Rattle.integers.proofs.Nearest.{nearest-size}
 use Rattle.words.specs.Registration.{unit_of}
 use Rattle.book.specs.Rows.{Row}
 use Rattle.cells.specs.Energy.{energy_wh}
-use Rattle.cells.specs.Cells.{consumption_class, is_loss_class, in_cell, loss_thousandths, consumption_cell, loss_cell, cell, energy_in, loss_in, sum_over}
-use Rattle.cells.specs.Helpers.{raw_cell, amount_in}
+use Rattle.cells.specs.Cells.{consumption_class, is_loss_class, in_cell, loss_thousandths, consumption_cell, loss_cell, energy_in, loss_in, sum_over}
 use Rattle.cells.proofs.Each.{Each, no-entry, entry}
 use Rattle.cells.proofs.RowBounds.{RowBounds}
 use Rattle.cells.proofs.Totals.{total, total-plus, total_mono, total-const, only_at, total-only}
-use Rattle.cells.proofs.SumOver.{sum-over-most}
-
--- what a meter adds to one cell is at most what it has
-in-cell-most : (unit class registration reading : ℕ) (amount : ℤ) → nat_abs (in_cell unit class registration reading amount) ≤ nat_abs amount
-unfolding in_cell
-in-cell-most unit class registration reading amount = by (eqb (unit_of registration) unit && eqb (consumption_class registration reading) class)
-  where
-    by : (t : Bool) → nat_abs (cond t amount (pos 0)) ≤ nat_abs amount
-    by true = omega arith
-    by false = omega arith
 
 -- a cell in thousandths of a Wh, before it is rounded
 abbrev pub thousandths : List ℕ → List Row → ℕ → ℕ → ℕ
 thousandths shapes meters unit class =
     cond (is_loss_class class) (nat_abs (loss_cell shapes meters unit (class - 1))) (1000 * nat_abs (consumption_cell shapes meters unit class))
-
-pub cell-thousandths : (shapes : List ℕ) (meters : List Row) (unit class : ℕ) → 1000 * nat_abs (cell shapes meters unit class) ≤ thousandths shapes meters unit class + 500
-unfolding cell
-cell-thousandths shapes meters unit class = by (is_loss_class class)
-  where
-    by : (t : Bool)
-        → 1000 * nat_abs (cond t (nearest_wh (loss_cell shapes meters unit (class - 1))) (consumption_cell shapes meters unit class))
-        ≤ cond t (nat_abs (loss_cell shapes meters unit (class - 1))) (1000 * nat_abs (consumption_cell shapes meters unit class)) + 500
-    by true = omega (arith, nearest-size (loss_cell shapes meters unit (class - 1)))
-    by false = omega arith
-
--- a cell before a loss is rounded is its loss cell or its consumption cell
-pub raw-cell-is : (shapes : List ℕ) (meters : List Row) (unit class : ℕ) → raw_cell shapes meters unit class ≡ cond (is_loss_class class) (loss_cell shapes meters unit (class - 1)) (consumption_cell shapes meters unit class)
-unfolding raw_cell amount_in loss_cell consumption_cell
-raw-cell-is shapes meters unit class = by (is_loss_class class)
-  where
-    by : (t : Bool) → sum_over (λ registration reading. cond t (loss_in shapes unit (class - 1) registration reading) (energy_in shapes unit class registration reading)) meters
-        ≡ cond t (loss_cell shapes meters unit (class - 1)) (consumption_cell shapes meters unit class)
-    by true = refl
-    by false = refl
-
-module _ (shapes : List ℕ) (unit class : ℕ) {meters : List Row} (e : Each (RowBounds shapes) meters) where
-  pub thousandths-most : thousandths shapes meters unit class ≤ length meters * 10000000000
-  unfolding loss_cell consumption_cell
-  thousandths-most = by (is_loss_class class)
-    where
-      by : (t : Bool) → cond t (nat_abs (loss_cell shapes meters unit (class - 1))) (1000 * nat_abs (consumption_cell shapes meters unit class)) ≤ length meters * 10000000000
-      by true =
-          sum-over-most (loss_in shapes unit (class - 1)) 10000000000
-          (λ r b. omega (arith, in-cell-most unit (class - 1) r.registration r.reading (loss_thousandths shapes r.registration r.reading), b.energy, b.loss)) e
-      by false =
-          omega (
-            arith,
-            sum-over-most (energy_in shapes unit class) 10000000
-                (λ r b. omega (arith, in-cell-most unit class r.registration r.reading (pos (energy_wh shapes r.registration r.reading)), b.energy)) e,
-          )
-
-  pub raw-cell-most : nat_abs (raw_cell shapes meters unit class) ≤ length meters * 10000000000
-  raw-cell-most = rw (raw-cell-is shapes meters unit class) (by (is_loss_class class) thousandths-most)
-    where
-      by : (t : Bool) → cond t (nat_abs (loss_cell shapes meters unit (class - 1))) (1000 * nat_abs (consumption_cell shapes meters unit class)) ≤ length meters * 10000000000
-          → nat_abs (cond t (loss_cell shapes meters unit (class - 1)) (consumption_cell shapes meters unit class)) ≤ length meters * 10000000000
-      by true h = h
-      by false h = omega arith
 
 -- what a meter of unit u and class k has, by cell: its losses in the class after that of its consumption
 abbrev own : ℕ → ℕ → ℕ → ℕ → ℕ → ℕ → ℕ

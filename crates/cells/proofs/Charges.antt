@@ -18,7 +18,7 @@ use Rattle.cells.specs.Cells.{consumption_class, in_cell, energy_in, loss_thousa
 
 -- what one meter gives, of its two words
 module _ (w reading : ℕ) where
-  source-kept : source_of (without_charges w) reading ≡ source_of w reading
+  pub source-kept : source_of (without_charges w) reading ≡ source_of w reading
   unfolding source_of
   source-kept = rw (status-kept w)
 
@@ -52,14 +52,14 @@ module _ (w reading : ℕ) where
     lacks-kept : lacks_shape shapes (without_charges w) reading ≡ lacks_shape shapes w reading
     lacks-kept = rw (source-kept, lacks-from-kept (source_of w reading))
 
-    energy-in-kept : (unit class : ℕ) → energy_in shapes unit class (without_charges w) reading ≡ energy_in shapes unit class w reading
+    pub energy-in-kept : (unit class : ℕ) → energy_in shapes unit class (without_charges w) reading ≡ energy_in shapes unit class w reading
     energy-in-kept unit class = rw energy-kept (in-cell-kept unit class _)
 
-    loss-in-kept : (unit class : ℕ) → loss_in shapes unit class (without_charges w) reading ≡ loss_in shapes unit class w reading
+    pub loss-in-kept : (unit class : ℕ) → loss_in shapes unit class (without_charges w) reading ≡ loss_in shapes unit class w reading
     loss-in-kept unit class = rw (llf-kept w, energy-kept) (in-cell-kept unit class (loss_thousandths shapes w reading))
 
 -- what the meters give together
-sum-without-charges : (f : ℕ → ℕ → ℤ) → ((w reading : ℕ) → f (without_charges w) reading ≡ f w reading)
+pub sum-without-charges : (f : ℕ → ℕ → ℤ) → ((w reading : ℕ) → f (without_charges w) reading ≡ f w reading)
     → (meters : List Row) → sum_over f (map row_without_charges meters) ≡ sum_over f meters
 unfolding sum_over sum
 sum-without-charges f kept [] = refl

@@ -1,14 +1,11 @@
--- A list worked out at each of the numbers 0, 1, .. below n: its length, its entries, and that no other list has them. So the cells of a unit.
+-- A list worked out at each of the numbers 0, 1, .. below n: its length, its entries, and that no other list has them.
 use Prim.Native.Nat.{ℕ, zero, suc, ◌+◌, ◌<◌}
 use mathlib.Core.Path.{◌≡◌, refl, sym, ap, ◌∙◌}
 use mathlib.Core.List.{List, map}
 use native.Mathlib.Omega.{arith}
 use lib.ListN.{length, get_or, length-map}
 use lib.Seq.{ext_get_or}
-use lib.IntN.{ℤ}
-use Rattle.book.specs.Limits.{classes}
-use Rattle.book.specs.Rows.{Row}
-use Rattle.cells.specs.Cells.{count_from, cell, cells_of}
+use Rattle.cells.specs.Cells.{count_from}
 
 count-length : (k n : ℕ) → length (count_from k n) ≡ n
 unfolding count_from
@@ -33,10 +30,6 @@ module _ {A : Type 0} (f : ℕ → A) where
       ext_get_or d xs (map f (count_from 0 n)) (long ∙ sym (counted-length n))
       (λ i h. let l : i < n = omega arith in same i l ∙ sym (counted-at n i d l))
 
-pub cells-length : (shapes : List ℕ) (meters : List Row) (unit : ℕ) → length (cells_of shapes meters unit) ≡ classes
-unfolding cells_of
-cells-length shapes meters unit = counted-length (cell shapes meters unit) classes
-
-pub cells_at : (shapes : List ℕ) (meters : List Row) (unit class : ℕ) (d : ℤ) → class < classes → get_or (cells_of shapes meters unit) class d ≡ cell shapes meters unit class
-unfolding cells_of
-cells_at shapes meters unit class d h = counted-at (cell shapes meters unit) classes class d h
+-- worked out alike at each of the numbers
+pub counted_same : {A : Type 0} (f g : ℕ → A) (n : ℕ) (d : A) → ((i : ℕ) → i < n → f i ≡ g i) → map f (count_from 0 n) ≡ map g (count_from 0 n)
+counted_same f g n d same = counted-list g n (map f (count_from 0 n)) d (counted-length f n) (λ i h. counted-at f n i d h ∙ same i h)

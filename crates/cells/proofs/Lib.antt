@@ -7,12 +7,11 @@ pub mod Counting
 -- from meters to cells
 pub mod Statuses
 pub mod Uses
-pub mod Tables
 pub mod SumOver
 pub mod SumBelow
 pub mod Stored
 pub mod Counted
-pub mod OneMore
+pub mod TwoClasses
 pub mod AnyOrder
 pub mod Charges
 -- how large they can be
@@ -22,5 +21,3 @@ pub mod CellBounds
 -- as the code works them
 pub mod Turns
 pub mod AnyLacks
-pub mod MeterAdded
-pub mod Gathering

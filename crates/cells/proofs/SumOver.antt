@@ -1,4 +1,4 @@
--- The sum over meters of what each gives, for whatever it gives: over two lists put together, with one meter more or changed, in any order, put through what keeps sums, and how large.
+-- The sum over meters of what each gives, for whatever it gives: over two lists put together, with one meter more or changed, in any order, put through what keeps sums, of differences, and how large.
 use Prim.Native.Nat.{ℕ, ◌*◌, ◌≤◌}
 use mathlib.Core.Path.{◌≡◌, refl, sym, ap, ◌∙◌}
 use mathlib.Core.List.{List, [], ◌∷◌, ◌++◌, append-nil, map-append}
@@ -75,3 +75,17 @@ module _ (f : ℕ → ℕ → ℤ) where
   sum-over-most most each no-entry = omega arith
   sum-over-most most each (entry {x = r} {xs = meters} p e) =
       omega (arith, size-plus (f r.registration r.reading) (sum_over f meters), each r p, sum-over-most most each e)
+
+pub differences : (a b s t : ℤ) → (a -ℤ b) +ℤ (s -ℤ t) ≡ (a +ℤ s) -ℤ (b +ℤ t)
+differences a b s t =
+    omega (linear, minus a b, minus s t, plus (a -ℤ b) (s -ℤ t), plus a s, plus b t, minus (a +ℤ s) (b +ℤ t))
+
+-- the sum of the differences between what each gives in two ways
+pub sum-over-minus : (f g : ℕ → ℕ → ℤ) (meters : List Row)
+    → sum_over (λ registration reading. f registration reading -ℤ g registration reading) meters ≡ sum_over f meters -ℤ sum_over g meters
+unfolding sum_over sum
+sum-over-minus f g [] = refl
+sum-over-minus f g (r ∷ meters) =
+    let x = f r.registration r.reading in
+    let y = g r.registration r.reading in
+    ap (λ z. (x -ℤ y) +ℤ z) (sum-over-minus f g meters) ∙ differences x y (sum_over f meters) (sum_over g meters)

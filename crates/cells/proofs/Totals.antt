@@ -1,10 +1,14 @@
 -- Sums of natural numbers over a range, as bounds of sums of signed numbers.
 use Prim.Native.Nat.{ℕ, zero, suc, ◌+◌, ◌*◌, ◌≤◌, ◌<◌}
-use mathlib.Core.Path.{◌≡◌, refl}
+use mathlib.Core.Path.{◌≡◌, refl, ap}
 use mathlib.Core.Bool.{Bool, true, false, cond}
 use native.Mathlib.Omega.{arith}
+use mathlib.Core.List.{map}
 use lib.Dec.{eqb}
+use lib.IntN.{ℤ, nat_abs}
 use borrow.Author.Tests.{eqb-true, ne_eqb}
+use Rattle.integers.specs.Sum.{sizes}
+use Rattle.cells.specs.Cells.{count_from}
 
 -- f j + f (j + 1) + .., n numbers
 unfoldable pub total : (ℕ → ℕ) → ℕ → ℕ → ℕ
@@ -48,3 +52,9 @@ total-only m v j (suc n) = by (eqb m j) refl (total-only m v (suc j) n)
     by : (t : Bool) → eqb m j ≡ t → total (only_at m v) (suc j) n ≤ v → cond (eqb m j) v 0 + total (only_at m v) (suc j) n ≤ v
     by true e rest = rw e (omega (arith, total-past m v (suc j) n (omega (arith, eqb-true))))
     by false e rest = rw e (omega arith)
+
+-- the sizes of numbers, added up
+pub sizes-total : (f : ℕ → ℤ) (j n : ℕ) → sizes (map f (count_from j n)) ≡ total (λ i. nat_abs (f i)) j n
+unfolding sizes total count_from
+sizes-total f j zero = refl
+sizes-total f j (suc n) = ap (λ s. nat_abs (f j) + s) (sizes-total f (suc j) n)

@@ -1,15 +1,14 @@
 -- What a use says of its meter: the energy in Wh, which is 0 where the shape is missing, and whether it is missing.
 use Prim.Native.Nat.{ℕ}
 use mathlib.Core.Path.{◌≡◌, refl}
-use mathlib.Core.Bool.{Bool, true, false, not, cond}
+use mathlib.Core.Bool.{Bool, true, false, cond}
 use mathlib.Core.List.{List}
 use lib.Dec.{eqb}
-use Rattle.std.specs.Prelude.{Some, None, unwrap_or, is_some}
+use Rattle.std.specs.Prelude.{Some, None, unwrap_or}
 use Rattle.book.specs.Limits.{shape_missing}
-use Rattle.cells.specs.declared.Use.{Use}
 use Rattle.cells.specs.declared.Source.{Source}
 use Rattle.cells.specs.declared.Source.TheVariants.{Actual, Estimated, Defaulted, Idle}
-use Rattle.cells.specs.Energy.{source_of, shape_of, shape_wh, energy_from, energy_wh, lacks_shape_from, lacks_shape}
+use Rattle.cells.specs.Energy.{source_of, shape_of, shape_wh, energy_from, energy_wh, lacks_shape_from}
 use Rattle.cells.specs.Helpers.{use_of, wh_of}
 
 module _ (shapes : List ℕ) (registration reading : ℕ) where
@@ -26,13 +25,4 @@ module _ (shapes : List ℕ) (registration reading : ℕ) where
       by Estimated = refl
       by Defaulted = shaped (eqb (shape_of shapes registration) shape_missing) (shape_of shapes registration)
       by Idle = refl
-
-  -- as the code asks it
-  pub use-lacks : {used : Use} {missing : Bool} → used ≡ use_of shapes registration reading → is_some used.wh ≡ not missing → missing ≡ lacks_shape shapes registration reading
-  use-lacks {used} {missing} e t = by (lacks_shape shapes registration reading) missing (energy_wh shapes registration reading) (rw e at t)
-    where
-      by : (lacks missing : Bool) (wh : ℕ) → is_some (cond lacks None (Some wh)) ≡ not missing → missing ≡ lacks
-      by true true wh h = refl
-      by true false wh h = cc
-      by false true wh h = cc
-      by false false wh h = refl
+      -- as the code asks it

@@ -67,6 +67,13 @@ any_lacks_shape shapes meters = list_any (λ r. lacks_shape shapes r.registratio
 
 -- `Counts` is the "four counts: actual [..], estimated [..], defaulted, idle"
 
+-- the number of a source, in that order
+abbrev pub source_number : Source → ℕ
+source_number Actual = 0
+source_number Estimated = 1
+source_number Defaulted = 2
+source_number Idle = 3
+
 -- what one meter counts
 unfoldable pub count_for : Source → Counts
 count_for Actual = record { actual = 1; estimated = 0; defaulted = 0; idle = 0 }

@@ -1,11 +1,11 @@
-// From meters to cells: the energy of a meter, its class, and one pass over the rows.
+// From meters to cells: the energy of a meter, and its class.
 #![tactic(auto)]
 
 ghost use Rattle.std.specs.Prelude.{◌≡◌};
 ghost use Rattle.cells.specs.Cells.{estimate_bit};
-ghost use Rattle.cells.specs.Helpers.{status_in, source_number};
+ghost use Rattle.cells.specs.Energy.{source_number};
+ghost use Rattle.cells.specs.Helpers.{status_in};
 
-pub mod cells;
 pub mod meters;
 
 use words::field::Field;

@@ -7,7 +7,7 @@ use lib.IntN.{ℤ, pos, nat_abs, ◌-ℤ◌}
 use lib.ListN.{length, get_or, length-map, take}
 use lib.Seq.{length-take-le}
 use lib.Signed.{◌<ℤ◌}
-use Rattle.integers.specs.Sum.{sum}
+use Rattle.integers.specs.Sum.{sum, sizes}
 use Rattle.cells.specs.Cells.{units}
 use Rattle.cells.proofs.Entries.{by_place}
 use Rattle.std.proofs.lemmas.List.{get_or-map}
@@ -15,7 +15,7 @@ use Rattle.correction.specs.declared.UnitSums.{UnitSums}
 use Rattle.correction.specs.declared.Corrected.{Corrected}
 use Rattle.correction.specs.Correction.{net_in, weighted_in, weighted_total, share_floor, share_fraction}
 use Rattle.correction.specs.Volumes.{lacking_wh, rounded_volumes, volumes_from, volumes_of}
-use Rattle.correction.specs.Helpers.{no_sums, sizes, IsWithinTolerance, ShareDownArguments, SharedDown, HandOutArguments, CorrectArguments}
+use Rattle.correction.specs.Helpers.{no_sums, IsWithinTolerance, ShareDownArguments, SharedDown, HandOutArguments, CorrectArguments}
 use Rattle.correction.specs.Outcome.{corrected_of}
 use Rattle.correction.proofs.Apportioned.{floors_of, lacking-is, lacking-at-most-31, fractions_of}
 use Rattle.correction.proofs.Sizes.{size-figure, sizes-most}

@@ -15,10 +15,9 @@ use Rattle.std.specs.Iterator.Adapters.{map_steps}
 use Rattle.std.specs.Slice.Iter.{iter_steps, iter_rest}
 use Rattle.std.proofs.iter.runs.Sources.{iter_runs}
 use Rattle.std.specs.Iterator.Runs.{Run, ItemsMapTo, IsMapRun}
-use Rattle.integers.specs.Sum.{sum}
+use Rattle.integers.specs.Sum.{sum, sizes}
 use Rattle.integers.proofs.Fit.{fit}
-use Rattle.correction.specs.Helpers.{sizes}
-use Rattle.correction.proofs.Sizes.{size-sum}
+use Rattle.integers.proofs.Sizes.{size-sum}
 
 module _ {A : Type 0} (f : A → ℤ) where
   fold-sum : (z : ℤ) (xs : List A) → fold (λ a x. a +ℤ f x) z xs ≡ z +ℤ sum (map f xs)

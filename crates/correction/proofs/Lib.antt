@@ -2,9 +2,12 @@
 pub mod Filled
 -- from cells to sums
 pub mod Pairs
+pub mod UnitCells
 pub mod RunningSums
 pub mod PairSums
+pub mod Droppings
 pub mod Sizes
+pub mod SliceBounds
 pub mod ChainSums
 -- the last watt-hours
 pub mod CountWhere

@@ -9,11 +9,11 @@ use lib.Dec.{eqb}
 use lib.IntN.{ℤ, pos, neg_ℤ, nat_abs, ◌+ℤ◌, ◌*ℤ◌, +ℤ_comm, +ℤ_assoc, neg_ℤ-+ℤ}
 use lib.ListN.{length, take, get_or}
 use Rattle.integers.specs.Sum.{sum}
-use Rattle.integers.specs.Rounding.{nearest_wh, dropped_thousandths}
+use Rattle.integers.specs.Rounding.{dropped_thousandths}
 use Rattle.integers.proofs.Size.{size-neg}
 use Rattle.cells.specs.Cells.{count_from}
 use Rattle.correction.specs.Correction.{by_direction, net_of, weighted_of}
-use Rattle.correction.specs.Helpers.{whole_cell, dropped_cell, each_from, rounded_from, dropped_from}
+use Rattle.correction.specs.Helpers.{dropped_cell, each_from, dropped_from}
 
 -- a number for each cell: from any class on, and from the first
 module _ (f : ℕ → ℤ → ℤ) where
@@ -72,16 +72,10 @@ direction-size class c = by (eqb (class / 4 % 2) 0)
     by true = refl
     by false = size-neg c
 
--- a pair of classes, consumption and the losses after it: what is rounded, what is dropped, and their one direction
+-- a pair of classes, consumption and the losses after it: what is dropped, and their one direction
 module _ (cells : List ℤ) (i : ℕ) (even : i % 2 ≡ 0) where
   odd : (i + 1) % 2 ≡ 1
   odd = omega arith
-
-  pub used-entry : i < length cells → get_or (rounded_from 0 cells) i (pos 0) ≡ get_or cells i (pos 0)
-  used-entry h = rw (each-entry whole_cell cells i h, even)
-
-  pub lost-entry : i + 1 < length cells → get_or (rounded_from 0 cells) (i + 1) (pos 0) ≡ nearest_wh (get_or cells (i + 1) (pos 0))
-  lost-entry h = rw (each-entry whole_cell cells (i + 1) h, odd)
 
   pub none_dropped : i < length cells → get_or (dropped_from 0 cells) i (pos 0) ≡ pos 0
   none_dropped h = rw (each-entry dropped_cell cells i h, even)

@@ -1,6 +1,6 @@
--- The sizes of numbers, added up, as a bound of each and of their sum; and n and a of a unit within those of its cells.
-use Prim.Native.Nat.{ℕ, zero, suc, ◌+◌, ◌*◌, ◌≤◌}
-use mathlib.Core.Path.{◌≡◌, refl, sym, ap, ◌∙◌}
+-- The sizes of numbers that entries have, added up; and n and a of a unit within those of its cells.
+use Prim.Native.Nat.{ℕ, suc, ◌*◌, ◌≤◌}
+use mathlib.Core.Path.{◌≡◌, sym, ap, ◌∙◌}
 use mathlib.Core.Bool.{true, and-eq-true_iff}
 use mathlib.Core.List.{List, [], ◌∷◌, map}
 use native.Mathlib.Omega.{arith}
@@ -8,28 +8,15 @@ use native.Mathlib.Nat.{mul-le-mul_left}
 use lib.IntN.{ℤ, pos, nat_abs, ◌*ℤ◌}
 use lib.ListN.{length, get_or, get_or-map}
 use borrow.Author.Tests.{leb-true}
-use Rattle.integers.specs.Sum.{sum}
+use Rattle.integers.specs.Sum.{sizes}
 use Rattle.integers.proofs.Size.{size-plus, size-times}
+use Rattle.integers.proofs.Sizes.{size-entry}
 use Rattle.std.specs.List.{list_all}
 use Rattle.book.specs.Settings.{is_weight}
-use Rattle.cells.specs.Cells.{count_from}
-use Rattle.cells.proofs.Totals.{total}
 use Rattle.correction.specs.Correction.{by_direction, net_of, weighted_of}
-use Rattle.correction.specs.Helpers.{sizes}
 use Rattle.correction.proofs.RunningSums.{direction-size}
 
-pub size-sum : (xs : List ℤ) → nat_abs (sum xs) ≤ sizes xs
-unfolding sum sizes
-size-sum [] = omega arith
-size-sum (x ∷ xs) = omega (arith, size-plus x (sum xs), size-sum xs)
-
-pub size-entry : (xs : List ℤ) (i : ℕ) → nat_abs (get_or xs i (pos 0)) ≤ sizes xs
-unfolding sizes
-size-entry [] i = omega arith
-size-entry (x ∷ xs) zero = omega arith
-size-entry (x ∷ xs) (suc i) = omega (arith, size-entry xs i)
-
--- the same of a number that each entry has
+-- the size of a number that each entry has
 pub size-figure : {A : Type 0} (figure : A → ℤ) (xs : List A) (i : ℕ) (d : A) → figure d ≡ pos 0 → nat_abs (figure (get_or xs i d)) ≤ sizes (map figure xs)
 size-figure figure xs i d none =
     let e : get_or (map figure xs) i (pos 0) ≡ figure (get_or xs i d) = ap (get_or (map figure xs) i) (sym none) ∙ get_or-map figure xs i d in
@@ -39,11 +26,6 @@ pub sizes-most : (xs : List ℤ) (B : ℕ) → ((k : ℕ) → nat_abs (get_or xs
 unfolding sizes
 sizes-most [] B h = omega arith
 sizes-most (x ∷ xs) B h = omega (arith, h 0, sizes-most xs B (λ k. h (suc k)))
-
-pub sizes-total : (f : ℕ → ℤ) (j n : ℕ) → sizes (map f (count_from j n)) ≡ total (λ i. nat_abs (f i)) j n
-unfolding sizes total count_from
-sizes-total f j zero = refl
-sizes-total f j (suc n) = ap (λ s. nat_abs (f j) + s) (sizes-total f (suc j) n)
 
 -- n and a of a unit, from the sizes of its cells
 pub net-most : (class : ℕ) (cells : List ℤ) → nat_abs (net_of class cells) ≤ sizes cells

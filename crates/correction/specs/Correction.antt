@@ -1,14 +1,20 @@
--- "Correction": n and a of a unit, U, W, and the exact share.
+-- "Correction": n and a of a unit, U, W, and the exact share; and sums over the loss classes of a unit, with the signs of n.
 use Rattle.std.specs.Prelude.{ℕ, suc, ◌/◌, ◌%◌, ◌*◌, cond, Bool, List, [], ◌∷◌, map, eqb, ltb, ℤ, pos, neg_ℤ, nat_abs, ◌+ℤ◌, ◌-ℤ◌, ◌*ℤ◌}
 use Rattle.std.specs.Int.Signed.{lt_z}
 use Rattle.refusals.specs.Causes.{refuse, accepted, weighted_below_one, tolerance_exceeded}
 use Rattle.integers.specs.Sum.{sum}
 use Rattle.integers.specs.Quotient.{floor_of, fraction_of}
+use Rattle.book.specs.Limits.{classes}
+use Rattle.cells.specs.Cells.{is_loss_class, sum_below}
 use Rattle.correction.specs.declared.UnitSums.{UnitSums}
 
 -- "import cells minus export cells": a cell with its sign, by the direction in its class
 abbrev pub by_direction : ℕ → ℤ → ℤ
 by_direction class c = cond (eqb (class / 4 % 2) 0) c (neg_ℤ c)
+
+-- document 02, request 3: "import minus export", of what each loss class of a unit has
+abbrev pub over_losses : (ℕ → ℤ) → ℤ
+over_losses f = sum_below classes (λ class. cond (is_loss_class class) (by_direction class (f class)) (pos 0))
 
 -- "n = import cells minus export cells", over the cells from a class on
 unfoldable pub net_of : ℕ → List ℤ → ℤ
@@ -20,6 +26,10 @@ unfoldable pub weighted_of : List ℤ → List ℕ → ℤ
 weighted_of [] weights = pos 0
 weighted_of (c ∷ cells) [] = pos 0
 weighted_of (c ∷ cells) (w ∷ weights) = c *ℤ pos w +ℤ weighted_of cells weights
+
+-- the two together, of a unit's 24 cells
+abbrev pub sums_of : List ℤ → List ℕ → UnitSums
+sums_of cells weights = record { net = net_of 0 cells; weighted = weighted_of cells weights }
 
 abbrev pub net_in : UnitSums → ℤ
 net_in x = x.net

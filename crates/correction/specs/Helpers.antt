@@ -3,60 +3,39 @@ use Rattle.std.specs.Prelude.{ℕ, suc, ◌+◌, ◌*◌, ◌-◌, ◌≤◌, �
 use Rattle.std.specs.Int.Signed.{lt_z}
 use Rattle.refusals.specs.Causes.{refuse, accepted, weighted_below_one, tolerance_exceeded}
 use Rattle.integers.specs.declared.Quotient.{Quotient}
+use Rattle.integers.specs.Sum.{sizes}
 use Rattle.integers.specs.Helpers.{energy_most, weighted_most}
-use Rattle.integers.specs.Rounding.{nearest_wh, dropped_thousandths}
+use Rattle.integers.specs.Rounding.{dropped_thousandths}
 use Rattle.cells.specs.Cells.{is_loss_class, units}
 use Rattle.correction.specs.declared.UnitSums.{UnitSums}
-use Rattle.correction.specs.declared.UnitFigures.{UnitFigures}
-use Rattle.correction.specs.declared.AllUnits.{AllUnits}
 use Rattle.correction.specs.declared.Corrected.{Corrected}
-use Rattle.correction.specs.Correction.{net_of, weighted_of, net_in, weighted_in, share_floor, share_fraction, exceeds_tolerance}
+use Rattle.correction.specs.Correction.{net_of, net_in, weighted_in, share_floor, share_fraction, exceeds_tolerance}
 
--- a raw cell as it counts: a loss rounded
-abbrev pub whole_cell : ℕ → ℤ → ℤ
-whole_cell class c = cond (is_loss_class class) (nearest_wh c) c
-
--- what rounding it drops: of a loss, and nothing of a consumption
+-- what rounding a cell drops that counts: of a loss, and nothing of a consumption
 abbrev pub dropped_cell : ℕ → ℤ → ℤ
 dropped_cell class c = cond (is_loss_class class) (dropped_thousandths c) (pos 0)
 
--- a number for each raw cell of a unit, from a class on
+-- a number for each cell of a unit, from a class on
 unfoldable pub each_from : (ℕ → ℤ → ℤ) → ℕ → List ℤ → List ℤ
 each_from f class [] = []
 each_from f class (c ∷ cells) = f class c ∷ each_from f (suc class) cells
 
--- the raw cells of a unit, from a class on, with the losses rounded; and what was dropped
-abbrev pub rounded_from : ℕ → List ℤ → List ℤ
-rounded_from class cells = each_from whole_cell class cells
-
+-- what is dropped of the cells of a unit, from a class on
 abbrev pub dropped_from : ℕ → List ℤ → List ℤ
 dropped_from class cells = each_from dropped_cell class cells
 
--- n and a of a unit from its raw cells
-abbrev pub sums_of : List ℤ → List ℕ → UnitSums
-sums_of cells weights = record { net = net_of 0 (rounded_from 0 cells); weighted = weighted_of (rounded_from 0 cells) weights }
-
--- its droppings: import minus export
+-- a unit's droppings: import minus export
 abbrev pub droppings_of : List ℤ → ℤ
 droppings_of cells = net_of 0 (dropped_from 0 cells)
 
--- the two together
-abbrev pub unit_figures_of : List ℤ → List ℕ → UnitFigures
-unit_figures_of cells weights = record { sums = sums_of cells weights; droppings = droppings_of cells }
-
--- what `unit_sums` is held to: cells of a size that all cells together may reach, once rounded, and weights in range
+-- what `unit_sums` is held to: rounded cells of a size that all cells together may reach, and weights in range
 pub record UnitArguments (cells : List ℤ) (weights : List ℕ) : Type 0 where
-  pub cells-bound : (k : ℕ) → nat_abs (get_or (rounded_from 0 cells) k (pos 0)) ≤ energy_most
+  pub cells-bound : (k : ℕ) → nat_abs (get_or cells k (pos 0)) ≤ energy_most
   pub weights-bound : (k : ℕ) → get_or weights k 0 ≤ 1000
 
 -- what `all_units` is held to
 pub record AllUnitsArguments (table : List (List ℤ)) (weights : List ℕ) : Type 0 where
   pub each : (unit : ℕ) → unit < units → UnitArguments (get_or table unit []) weights
-
--- what `all_units` gives: n, a and the droppings of each row of the table
-pub record UnitsWorked (weights : List ℕ) (table : List (List ℤ)) (x : AllUnits) : Type 0 where
-  pub sums-are : x.sums ≡ map (λ cells. sums_of cells weights) table
-  pub droppings-are : x.droppings ≡ map droppings_of table
 
 -- what is read where there is no unit
 abbrev pub no_sums : UnitSums
@@ -109,11 +88,6 @@ pub record HandOutArguments (volumes : List ℤ) (lack : ℕ) : Type 0 where
   pub volumes-long : length volumes ≡ units
   pub lack-few : lack ≤ units
   pub volumes-bound : (k : ℕ) → nat_abs (get_or volumes k (pos 0)) ≤ 1000000000000000000
-
--- the sizes of numbers, added up
-unfoldable pub sizes : List ℤ → ℕ
-sizes [] = 0
-sizes (x ∷ xs) = nat_abs x + sizes xs
 
 -- what U and W are worked from: sums of the units that no full book exceeds
 pub record SumsArguments (take_wh : ℤ) (sums : List UnitSums) : Type 0 where

@@ -3,6 +3,7 @@ pub mod Linear
 pub mod Ring
 pub mod Order
 pub mod Size
+pub mod Sizes
 pub mod Fit
 pub mod Sum
 pub mod Floor

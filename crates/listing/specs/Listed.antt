@@ -7,10 +7,10 @@ use Rattle.book.specs.declared.Answer.{Answer}
 use Rattle.book.specs.declared.Setting.{Setting}
 use Rattle.book.specs.declared.Setting.TheVariants.{Shape, Weight, Tolerance, GroupTake}
 use Rattle.book.specs.Limits.{tolerance_most}
-use Rattle.book.specs.Book.{Book}
+use Rattle.running.specs.Running.{Running}
 use Rattle.calls.specs.declared.Call.{Call}
 use Rattle.calls.specs.declared.Call.TheVariants.{Register, Record, Set}
-use Rattle.calls.specs.Calls.{book_after, numbers_given}
+use Rattle.calls.specs.Running.{running_after, running_numbers}
 
 -- a call is twelve words: its kind, then its arguments in the order of the call; words that a kind does not use mean nothing
 abbrev pub call_words : ℕ
@@ -90,28 +90,29 @@ list_cause ws numbers =
     refuse (not (eqb (length ws % call_words) 0)) list_misshapen
     (refuse (ltb (length numbers) (length ws / call_words)) list_misshapen accepted)
 
--- what a list leaves: the number given, the book afterwards, and the slice of the calls' numbers
+-- what a list leaves: the number given, the book and its cells afterwards, and the slice of the calls' numbers
 pub record ListOutcome : Type 0 where
   pub number : ℕ
-  pub book : Book
+  pub running : Running
   pub numbers : List ℕ
 
-unfoldable pub list_outcome : ℕ → Book → List ℕ → List ℕ → ListOutcome
-list_outcome zero b ws numbers =
+unfoldable pub list_outcome : ℕ → Running → List ℕ → List ℕ → ListOutcome
+list_outcome zero r ws numbers =
     record {
       number = accepted;
-      book = book_after b (calls_in ws);
-      numbers = numbers_given b (calls_in ws) ++ drop (length ws / call_words) numbers;
+      running = running_after r (calls_in ws);
+      numbers = running_numbers r (calls_in ws) ++ drop (length ws / call_words) numbers;
     }
-list_outcome (suc k) b ws numbers = record { number = suc k; book = b; numbers = numbers }
+list_outcome (suc k) r ws numbers = record { number = suc k; running = r; numbers = numbers }
 
--- the calls are made in order, each on the book that the one before left
-unfoldable pub list_call : Book → List ℕ → List ℕ → ListOutcome
-list_call b ws numbers = list_outcome (list_cause ws numbers) b ws numbers
+-- the calls are made in order, each on the book and the cells that the one before left
+unfoldable pub list_call : Running → List ℕ → List ℕ → ListOutcome
+list_call r ws numbers = list_outcome (list_cause ws numbers) r ws numbers
 
--- the promise of a list of calls: the answer, the rows and the numbers afterwards are those of an outcome
-pub record ListGives (o : ListOutcome) (answer : Answer) (rows_after numbers_after : List ℕ) : Type 0 where
+-- the promise of a list of calls: the answer, the rows, the cells and the numbers afterwards are those of an outcome
+pub record ListGives (o : ListOutcome) (answer : Answer) (rows_after : List ℕ) (cells_after : List ℤ) (numbers_after : List ℕ) : Type 0 where
   pub number : answer.number ≡ o.number
-  pub settings : answer.settings ≡ o.book.settings
-  pub rows : rows_after ≡ o.book.rows
+  pub settings : answer.settings ≡ o.running.book.settings
+  pub rows : rows_after ≡ o.running.book.rows
+  pub cells : cells_after ≡ o.running.cells
   pub numbers : numbers_after ≡ o.numbers

@@ -3,15 +3,18 @@ ghost use Rattle.std.specs.Prelude.{◌≡◌, true, ◌≤◌, length};
 ghost use Rattle.std.specs.Result.{result_ok};
 ghost use Rattle.book.specs.Book.{well_formed, lent};
 ghost use Rattle.book.specs.Helpers.{answer_of};
+ghost use Rattle.running.specs.Running.{running_of};
+ghost use Rattle.running.specs.Lent.{lent_slice, lent_cells};
 ghost use Rattle.listing.specs.Listed.{registration_in, reading_in, call_of, list_call, ListGives};
 ghost use Rattle.listing.specs.Kind.{kind_of};
 ghost use Rattle.listing.specs.Helpers.{MakesEach};
 
-use book::formed::is_formed;
 use book::{Setting, Settings};
 use calls::Call;
 use calls::make::make;
 use refusals::{Refusal, number_given};
+use running::RunningCells;
+use running::lent::test_lent;
 use two_parts::Parts;
 use words::{Reading, Registration};
 
@@ -115,41 +118,44 @@ fn call_of(words: &[u64; CALL_WORDS]) -> Call
     }
 }
 
-// Makes each call of a list in turn, on a book that was tested before: accepted calls keep it well formed, so no call tests it again.
-// A new meter's row goes among the few of the second part, which are merged into the first when they are too many and at the end: to
-// insert each in its place among all of them would move half of them on average.
+// Makes each call of a list in turn, on a book and cells that were tested before: accepted calls keep them well formed, so no call tests
+// them again. A new meter's row goes among the few of the second part, which are merged into the first when they are too many and at the
+// end: to insert each in its place among all of them would move half of them on average.
 fn make_each(
     settings: Settings,
     rows: &mut [u64],
+    cells: &mut RunningCells<'_>,
     calls: &[[u64; CALL_WORDS]],
     numbers: &mut [u64],
 ) -> Settings
     requires formed { well_formed (lent settings rows.old) ≡ true }
     requires room { length calls.now ≤ length numbers.old }
-    ensures { MakesEach (lent settings rows.old) calls.now numbers.old result rows.new numbers.new }
+    ensures same_slice { lent_slice cells.new ≡ lent_slice cells.old }
+    ensures makes { MakesEach (running_of settings rows.old (lent_cells cells.old)) calls.now numbers.old result rows.new (lent_cells cells.new) numbers.new }
 {
     let mut made = settings;
     let mut parts = Parts::new(rows, settings.meters);
     // Kept: tried with a zip of `iter_mut`, and the proof didn't close: nothing is known then of the numbers it has written, as in
     // `correction::sums::all_units`.
     for (i, words) in calls.iter().enumerate() {
-        let outcome = make(&mut made, &mut parts, call_of(words));
+        let outcome = make(&mut made, &mut parts, cells, call_of(words));
         numbers[i] = number_given(&outcome);
     }
     parts.merge();
     made
 }
 
-// Makes the calls of a list in order, as making them one by one does, and writes their numbers. The book is tested once;
-// if it is ill formed, every call is refused for it.
+// Makes the calls of a list in order, as making them one by one does, and writes their numbers. The book and its cells are tested once;
+// if they are refused, every call is refused for them.
 #[tactic(auto, using(crate::proofs::ListMade::whole_lists))]
 pub fn make_calls(
     settings: Settings,
     rows: &mut [u64],
+    cells: &mut [i64],
     calls: &[u64],
     numbers: &mut [u64],
 ) -> Result<Settings, Refusal>
-    ensures { ListGives (list_call (lent settings rows.old) calls.now numbers.old) (answer_of settings result) rows.new numbers.new }
+    ensures { ListGives (list_call (running_of settings rows.old cells.old) calls.now numbers.old) (answer_of settings result) rows.new cells.new numbers.new }
 {
     let (calls, rest) = calls.as_chunks::<CALL_WORDS>();
     if !rest.is_empty() {
@@ -158,9 +164,14 @@ pub fn make_calls(
     if numbers.len() < calls.len() {
         return Err(Refusal::ListMisshapen);
     }
-    if !is_formed(settings, rows) {
-        numbers[..calls.len()].fill(u64::from(Refusal::BookIllFormed));
-        return Ok(settings);
+    match test_lent(settings, rows, cells) {
+        Ok(size) => {
+            let mut kept = RunningCells::new(cells, size);
+            Ok(make_each(settings, rows, &mut kept, calls, numbers))
+        }
+        Err(refusal) => {
+            numbers[..calls.len()].fill(u64::from(refusal));
+            Ok(settings)
+        }
     }
-    Ok(make_each(settings, rows, calls, numbers))
 }

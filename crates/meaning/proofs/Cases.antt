@@ -8,7 +8,6 @@ use Rattle.integers.specs.Rounding.{nearest_wh, dropped_thousandths}
 use Rattle.words.specs.Mpan.{is_mpan}
 use Rattle.words.specs.Registration.{registration_of, registration_word, registration_in_range, is_registration, unit_of}
 use Rattle.words.specs.Reading.{reading_of, reading_word, is_actual, quality_allowed, reading_in_range, is_reading}
-use Rattle.std.specs.List.{list_all}
 use Rattle.book.specs.Settings.{take_formed, settings_formed, with_setting, setting_cause}
 use Rattle.book.specs.Rows.{capacity, rows_of, words_of, written, rows_formed, is_known, issue_held, with_registration, with_reading}
 use Rattle.book.specs.Book.{used_rows, well_formed}

@@ -2,9 +2,9 @@
 use Prim.Native.Nat.{ℕ, zero, suc, ◌+◌, ◌*◌, ◌-◌}
 use mathlib.Core.Path.{◌≡◌, refl, sym, ◌∙◌, ap, ap₂}
 use mathlib.Core.Bool.{true, false, and-false}
-use mathlib.Core.List.{List, [], ◌∷◌}
+use mathlib.Core.List.{List, ◌∷◌}
 use lib.IntN.{ℤ}
-use lib.ListN.{length, length-append, length-drop}
+use lib.ListN.{length, take, length-append, length-drop}
 use Rattle.words.specs.declared.Registration.{Registration}
 use Rattle.words.specs.declared.Reading.{Reading}
 use Rattle.words.specs.Registration.{without_charges, registration_word, registration_in_range, registration_without_charges}
@@ -12,6 +12,7 @@ use Rattle.words.specs.Reading.{reading_word}
 use Rattle.words.specs.Mpan.{is_mpan}
 use Rattle.words.proofs.Tests.{by-test}
 use Rattle.words.proofs.Charges.{word-without-charges}
+use Rattle.book.specs.declared.Settings.{Settings}
 use Rattle.book.specs.declared.Setting.{Setting}
 use Rattle.book.specs.Settings.{with_meters, with_setting, setting_cause}
 use Rattle.book.specs.Rows.{Row, capacity, rows_of, written, with_registration, with_reading}
@@ -19,26 +20,41 @@ use Rattle.book.specs.Book.{Book, fresh_book, used_rows, well_formed, with_rows}
 use Rattle.book.specs.Store.{register_in_range, registration_cause, reading_cause}
 use Rattle.book.proofs.RowsOf.{length-words}
 use Rattle.book.proofs.Written.{rows-of-written}
-use Rattle.book.proofs.BookFormed.{capacity-same, count_kept}
-use Rattle.book.proofs.Charges.{RowsAlike, count-alike, registration-cause-alike, reading-cause-alike, registered-alike, read_alike}
+use Rattle.book.proofs.BookFormed.{fresh-book-formed, capacity-same, count_kept}
+use Rattle.book.proofs.Charges.{RowsAlike, same-where-alike, count-alike, registration-cause-alike, reading-cause-alike, registered-alike, read_alike}
 use Rattle.calls.specs.declared.Call.{Call}
 use Rattle.calls.specs.declared.Call.TheVariants.{Register, Record, Set}
 use Rattle.calls.specs.Calls.{Outcome, outcome, cause_after_test, call_cause, book_made, call_outcome, book_after, numbers_given}
+use Rattle.calls.specs.Running.{running_numbers}
 use Rattle.calls.proofs.CallFormed.{call-formed}
 use Rattle.calls.proofs.RegisterCall.{register-out-of-range}
+use Rattle.running.specs.Words.{slice_words}
+use Rattle.running.specs.Running.{running_formed, cells_for}
+use Rattle.running.proofs.Charges.{cells-for-without-charges}
 use Rattle.allocation.specs.Allocate.{allocate_call}
+use Rattle.allocation.specs.Running.{running_allocation_cause, allocate_running}
 use Rattle.allocation.proofs.Charges.{answer-without-charges, volumes-without-charges}
-use Rattle.meaning.specs.Demand.{allocation_after}
+use Rattle.meaning.specs.Kept.{FreshCells, fresh_running, listed_running}
+use Rattle.meaning.specs.Demand.{allocation_after, rows_allocated}
 use Rattle.meaning.specs.Charges.{BooksAlike, CallAlike, registers-alike, same-call, CallsAlike, no-calls, next-call, AllocationSame, ChargesIgnored}
-use Rattle.meaning.proofs.Meant.{list-meant}
+use Rattle.meaning.proofs.Kept.{cells-kept, first-words, answer-same, volumes-same}
 
--- two books
-books-allocated : (b other : Book) → BooksAlike b other → (slice : List ℤ) → AllocationSame (allocate_call b slice) (allocate_call other slice)
-books-allocated b other a slice =
-    record {
-      same_answer = answer-without-charges b other a.formed a.other-formed a.same-settings a.rows_alike slice;
-      same-volumes = volumes-without-charges b other a.formed a.other-formed a.same-settings a.rows_alike slice;
-    }
+-- two books, with the same cells
+books-allocated : (b other : Book) → BooksAlike b other → (cells slice : List ℤ)
+    → AllocationSame (allocate_running (record { book = b; cells = cells }) slice) (allocate_running (record { book = other; cells = cells }) slice)
+unfolding allocate_running running_allocation_cause running_formed
+books-allocated b other a cells slice = rw (a.formed, a.other-formed, a.same-settings) (record { same_answer = refl; same-volumes = refl })
+
+-- the sums over their rows, and the allocation from the rows
+same-sums : (b other : Book) → BooksAlike b other → cells_for b.settings.shapes (used_rows b) ≡ cells_for other.settings.shapes (used_rows other)
+same-sums b other a =
+    same-where-alike (used_rows b) (used_rows other) a.rows_alike (cells_for b.settings.shapes) (cells-for-without-charges b.settings.shapes)
+    ∙ ap (λ (s : Settings). cells_for s.shapes (used_rows other)) a.same-settings
+
+rows-allocated : (b other : Book) → BooksAlike b other → (slice : List ℤ)
+    → ((allocate_call b slice).answer ≡ (allocate_call other slice).answer) × ((allocate_call b slice).volumes ≡ (allocate_call other slice).volumes)
+rows-allocated b other a slice =
+    (answer-without-charges b other a.formed a.other-formed a.same-settings a.rows_alike slice, volumes-without-charges b other a.formed a.other-formed a.same-settings a.rows_alike slice)
 
 -- what calls keep, besides the books being well formed: the same settings, alike rows, and slices of equal lengths
 record Alike (b other : Book) : Type 0 where
@@ -144,23 +160,51 @@ list-books b other formed other-formed a (next-call {c = c} {d = d} call rest) =
     list-books (call_outcome b c).book (call_outcome other d).book (call-formed b formed c) (call-formed other other-formed d) step.books rest
 
 -- from fresh books
-fresh-book-formed : (words : List ℕ) → well_formed (fresh_book words) ≡ true
-unfolding book_after
-fresh-book-formed words = (list-meant words []).formed
-
 fresh-alike : (words words' : List ℕ) → length words ≡ length words' → Alike (fresh_book words) (fresh_book words')
 unfolding used_rows rows_of
 fresh-alike words words' long = record { settings = refl; rows = refl; size = long }
 
+-- two lists, on cells that are 0 at the start
+module _ (words words' : List ℕ) (long : length words ≡ length words') (cells cells' : List ℤ) (fresh : FreshCells cells) (fresh' : FreshCells cells')
+    {calls others : List Call} (alike : CallsAlike calls others) where
+  abbrev first : Book
+  first = book_after (fresh_book words) calls
+
+  abbrev second : Book
+  second = book_after (fresh_book words') others
+
+  books-after : BooksAlike first second
+  books-after = list-books (fresh_book words) (fresh_book words') (fresh-book-formed words) (fresh-book-formed words') (fresh-alike words words' long) alike
+
+  numbers-alike : running_numbers (fresh_running words cells) calls ≡ running_numbers (fresh_running words' cells') others
+  numbers-alike =
+      (cells-kept words cells fresh calls).numbers-same
+      ∙ list-numbers (fresh_book words) (fresh_book words') (fresh-book-formed words) (fresh-book-formed words') (fresh-alike words words' long) alike
+      ∙ sym (cells-kept words' cells' fresh' others).numbers-same
+
+  cells-alike : take slice_words (listed_running words cells calls).cells ≡ take slice_words (listed_running words' cells' others).cells
+  cells-alike =
+      first-words words cells fresh calls
+      ∙ same-sums first second books-after
+      ∙ sym (first-words words' cells' fresh' others)
+
+  lists-allocated : (slice : List ℤ) → AllocationSame (allocation_after words cells calls slice) (allocation_after words' cells' others slice)
+  unfolding rows_allocated
+  lists-allocated slice =
+      let allocated = rows-allocated first second books-after slice in
+      record {
+        same_answer = answer-same words cells fresh calls slice ∙ allocated.0 ∙ sym (answer-same words' cells' fresh' others slice);
+        same-volumes = volumes-same words cells fresh calls slice ∙ allocated.1 ∙ sym (volumes-same words' cells' fresh' others slice);
+      }
+
 -- the theorem
 pub charges-ignored : ChargesIgnored
-unfolding allocation_after
 charges-ignored =
     record {
       books = books-allocated;
-      numbers = λ words words' long calls others alike.
-          list-numbers (fresh_book words) (fresh_book words') (fresh-book-formed words) (fresh-book-formed words') (fresh-alike words words' long) alike;
-      lists = λ words words' long calls others alike slice.
-          books-allocated (book_after (fresh_book words) calls) (book_after (fresh_book words') others)
-          (list-books (fresh_book words) (fresh_book words') (fresh-book-formed words) (fresh-book-formed words') (fresh-alike words words' long) alike) slice;
+      same-sums = same-sums;
+      rows = rows-allocated;
+      numbers = λ words words' long cells cells' fresh fresh' calls others alike. numbers-alike words words' long cells cells' fresh fresh' alike;
+      same-cells = λ words words' long cells cells' fresh fresh' calls others alike. cells-alike words words' long cells cells' fresh fresh' alike;
+      lists = λ words words' long cells cells' fresh fresh' calls others alike. lists-allocated words words' long cells cells' fresh fresh' alike;
     }

@@ -1,4 +1,4 @@
--- What a list of calls means: document 01's cases, and that making the calls gives it. From the laws of lists up to the two theorems, `Meant` and `Moved`, and demand 3; and that an allocation ignores networks and tariffs.
+-- What a list of calls means: document 01's cases, and that making the calls gives it. From the laws of lists up to the two theorems, `Meant` and `Moved`, and demand 3; that an allocation ignores networks and tariffs; and that the running cells keep up.
 pub mod Cases
 -- lists
 pub mod Lists
@@ -18,6 +18,7 @@ pub mod ReadingStep
 pub mod Meant
 pub mod Moved
 pub mod Moves
+pub mod Kept
 pub mod Settles
 -- books and lists that differ only in networks and tariffs
 pub mod Charges

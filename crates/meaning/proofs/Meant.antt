@@ -1,13 +1,11 @@
 -- Making a list of calls from a fresh book gives what the list means: the settings, the meters and a well-formed book, for every slice and every list, refused calls included. By the calls one after the other, each of which keeps `Means`.
-use Prim.Native.Nat.{ℕ, zero-le}
+use Prim.Native.Nat.{ℕ}
 use mathlib.Core.Path.{◌≡◌, refl}
 use mathlib.Core.List.{List, [], ◌∷◌, ◌++◌, append-nil, append_assoc}
 use lib.Seq.{take-nil}
 use Rattle.book.specs.Rows.{capacity, rows_of}
 use Rattle.book.specs.Book.{Book, fresh_book, used_rows}
-use Rattle.book.proofs.WellFormed.{book-formed}
-use Rattle.book.proofs.Rising.{formed-none}
-use Rattle.book.proofs.BookFormed.{fresh-formed}
+use Rattle.book.proofs.BookFormed.{fresh-book-formed}
 use Rattle.calls.specs.declared.Call.{Call}
 use Rattle.calls.specs.declared.Call.TheVariants.{Register, Record, Set}
 use Rattle.calls.specs.Calls.{call_outcome, book_after}
@@ -24,7 +22,7 @@ fresh-means : (words : List ℕ) → Means words (fresh_book words) []
 unfolding used_rows rows_of meant_meters meant_mpans different gather
 fresh-means words =
     record {
-      formed = book-formed (fresh_book words) (record { within = zero-le; settings-formed = fresh-formed; rows-formed = formed-none 0 });
+      formed = fresh-book-formed words;
       size = refl;
       settings-meant = settings-fresh (capacity words);
       meters-meant = rw (take-nil (capacity words)) none;

@@ -1,7 +1,7 @@
 -- Demand 3: every whole list of calls from a fresh book, and the accepted allocation after it. Making the calls gives what the list means, an allocation
 -- does not depend on the order of the meters, and an accepted one carries the Take with each volume under 1 Wh from its share and tells what its losses dropped. Assumes nothing.
 use Prim.Native.Nat.{ℕ, ◌≤◌, ◌<◌}
-use mathlib.Core.Path.{◌≡◌, sym, ◌∙◌, ap, ap₂, subst, subst₂}
+use mathlib.Core.Path.{◌≡◌, refl, sym, ◌∙◌, ap, ap₂, subst, subst₂}
 use mathlib.Core.Bool.{not}
 use mathlib.Core.List.{List}
 use borrow.Author.Tests.{le-ltb}
@@ -23,17 +23,21 @@ use Rattle.correction.specs.declared.UnitSums.{UnitSums}
 use Rattle.correction.specs.Correction.{weighted_total}
 use Rattle.correction.specs.Volumes.{volumes_of}
 use Rattle.correction.proofs.Apportioned.{numerators_of}
+use Rattle.allocation.specs.declared.Allocated.{Allocated}
 use Rattle.allocation.specs.Losses.{LossesReconciled}
 use Rattle.allocation.specs.Allocate.{all_unit_sums, meters_cause, allocation_cause, figures_of, allocate_call}
+use Rattle.allocation.specs.Running.{allocate_running}
 use Rattle.allocation.proofs.AnyOrder.{sums-any-order, cause-any-order, figures-any-order, reconciled-any-order}
 use Rattle.allocation.proofs.Outcome.{sums_of, number-given, accepted-answer, accepted-losses, accepted-volumes, accepted-total, accepted-distance}
 use Rattle.meaning.specs.Meaning.{meant_take, meant_mpans, meant_meters, meant_settings}
 use Rattle.meaning.specs.Moves.{EarliestKept}
-use Rattle.meaning.specs.Demand.{allocation_after, meant_sums, meant_numerators, counts_answered, AllocatedAlike, Demand3}
+use Rattle.meaning.specs.Kept.{FreshCells}
+use Rattle.meaning.specs.Demand.{allocation_after, rows_allocated, meant_sums, meant_numerators, counts_answered, ListSettled, AllocatedAlike, Demand3}
 use Rattle.meaning.proofs.Means.{Means, length-meters}
 use Rattle.meaning.proofs.Meant.{list-meant}
 use Rattle.meaning.proofs.Moved.{moved-settings, moved-meters}
 use Rattle.meaning.proofs.Moves.{earliest-kept}
+use Rattle.meaning.proofs.Kept.{cells-kept, answer-same, volumes-same}
 
 -- two books with the same settings, and the same meters in any order, are allocated alike
 module _ (b c : Book) (same : b.settings ≡ c.settings) (p : Permuted Row (used_rows b) (used_rows c)) where
@@ -145,22 +149,49 @@ module _ (words : List ℕ) (calls : List Call) (slice : List ℤ) (h : (allocat
       ∙ ap₂ volumes_of (ap (λ (s : Settings). s.take_wh) same-settings) (alike-sums (made words' calls') (made words calls) same-settings same-meters)
       ∙ sym (accepted-volumes (made words calls) slice h)
 
-  alike : AllocatedAlike (allocate_call (made words calls) slice) (allocate_call (made words' calls') slice')
-  alike = record { accepted-too = also-accepted; same_answer = moved-answer; same-volumes = moved-volumes }
+  -- on cells that are 0 at the start
+  module _ (cells : List ℤ) (fresh : FreshCells cells) (cells' : List ℤ) (fresh' : FreshCells cells') where
+    alike : AllocatedAlike (allocation_after words cells calls slice) (allocation_after words' cells' calls' slice')
+    unfolding rows_allocated
+    alike =
+        let second = answer-same words' cells' fresh' calls' slice' in
+        record {
+          accepted-too = ap (λ (a : Allocated). a.number) second ∙ also-accepted;
+          same_answer = second ∙ moved-answer ∙ sym (answer-same words cells fresh calls slice);
+          same-volumes = ap (take units) (volumes-same words' cells' fresh' calls' slice') ∙ moved-volumes ∙ sym (ap (take units) (volumes-same words cells fresh calls slice));
+        }
+
+-- what it says of one list
+list-settled : (words : List ℕ) (calls : List Call) (slice : List ℤ) → (allocate_call (made words calls) slice).answer.number ≡ accepted
+    → ListSettled words calls (allocate_call (made words calls) slice).answer (allocate_call (made words calls) slice).volumes
+list-settled words calls slice h =
+    record {
+      total = accepted-total (made words calls) slice h ∙ take-meant words calls;
+      volumes = volumes-meant words calls slice h;
+      figures = answer-meant words calls slice h;
+      distance = distance-meant words calls slice h;
+      meters = meters-counted words calls slice h;
+      losses = losses-meant words calls slice h;
+    }
 
 -- the theorem
 pub demand-3 : Demand3
-unfolding Demand3 allocation_after
-demand-3 words calls slice h =
+unfolding Demand3 rows_allocated allocation_after allocate_running
+demand-3 words cells fresh calls slice =
+    let answer = answer-same words cells fresh calls slice in
+    let volumes = volumes-same words cells fresh calls slice in
+    let by_rows : (allocation_after words cells calls slice).answer.number ≡ accepted → (allocate_call (made words calls) slice).answer.number ≡ accepted =
+    λ h. sym (ap (λ (a : Allocated). a.number) answer) ∙ h in
     record {
-      settled = record {
-        total = accepted-total (made words calls) slice h ∙ take-meant words calls;
-        volumes = volumes-meant words calls slice h;
-        figures = answer-meant words calls slice h;
-        distance = distance-meant words calls slice h;
-        meters = meters-counted words calls slice h;
-        losses = losses-meant words calls slice h;
+      kept = cells-kept words cells fresh calls;
+      same_answer = answer;
+      same-volumes = volumes;
+      nothing-changed = refl;
+      demanded = λ h. record {
+        settled = subst₂ (ListSettled words calls) (sym answer) (sym volumes) (list-settled words calls slice (by_rows h));
+        moved = λ words' cells' calls' slice' long fresh' room same.
+            alike words calls slice (by_rows h) words' calls' slice' long room (earliest-kept same) cells fresh cells' fresh';
+        moved-further = λ words' cells' calls' slice' long fresh' room same.
+            alike words calls slice (by_rows h) words' calls' slice' long room same cells fresh cells' fresh';
       };
-      moved = λ words' calls' slice' long room same. alike words calls slice h words' calls' slice' long room (earliest-kept same);
-      moved-further = alike words calls slice h;
     }

@@ -1,14 +1,14 @@
 -- The lines of a period file, the order of their kinds, and the call of each.
-use Rattle.std.specs.Prelude.{ℕ, ◌≡◌, Bool, true, ◌&&◌, ◌||◌, cond, List, [], ◌∷◌, Option, None, Some, MatchOption, leb, ltb, eqb, length, drop}
+use Rattle.std.specs.Prelude.{ℕ, ◌≡◌, Bool, true, ◌&&◌, ◌||◌, cond, List, [], ◌∷◌, Option, None, Some, MatchOption, leb, ltb, eqb, length, drop, ℤ}
 use Rattle.std.specs.Option.{option_map, is_some, unwrap_or}
 use Rattle.words.specs.declared.Registration.{Registration}
 use Rattle.book.specs.declared.Setting.{Setting}
 use Rattle.book.specs.declared.Setting.TheVariants.{Shape, Weight, Tolerance, GroupTake}
-use Rattle.book.specs.Book.{Book}
+use Rattle.running.specs.Running.{Running}
 use Rattle.book.specs.Helpers.{answer_of}
 use Rattle.calls.specs.declared.Call.{Call}
 use Rattle.calls.specs.declared.Call.TheVariants.{Register, Record, Set}
-use Rattle.calls.specs.Calls.{call_outcome, Gives}
+use Rattle.calls.specs.Running.{running_call, RunningGives}
 use Rattle.period_file.specs.declared.LineKind.{LineKind}
 use Rattle.period_file.specs.declared.LineKind.TheVariants as kind
 use Rattle.period_file.specs.declared.Taken.{Taken}
@@ -147,18 +147,19 @@ unfoldable pub line_after : Option LineKind → List ℕ → Option Call
 line_after last line = given (line_of line) (λ call. in_form (kind_follows last (call_kind call)) (Some call))
 
 -- "makes the call of each": a line in form gives its kind, and what its call leaves
-pub record CallTaken (b : Book) (made : Option Call) (taken : Taken) (rows_after : List ℕ) : Type 0 where
+pub record CallTaken (r : Running) (made : Option Call) (taken : Taken) (rows_after : List ℕ) (cells_after : List ℤ) : Type 0 where
   pub call : Call
   pub makes : made ≡ Some call
   pub kind : taken.kind ≡ call_kind call
-  pub gives : Gives (call_outcome b call) (answer_of b.settings taken.outcome) rows_after
+  pub gives : RunningGives (running_call r call) (answer_of r.book.settings taken.outcome) rows_after cells_after
 
--- a line out of form makes none, and leaves the rows
-pub record NoneTaken (b : Book) (made : Option Call) (rows_after : List ℕ) : Type 0 where
+-- a line out of form makes none, and leaves the rows and the cells
+pub record NoneTaken (r : Running) (made : Option Call) (rows_after : List ℕ) (cells_after : List ℤ) : Type 0 where
   pub makes_none : made ≡ None
-  pub rows : rows_after ≡ b.rows
+  pub rows : rows_after ≡ r.book.rows
+  pub cells : cells_after ≡ r.cells
 
 -- what taking a line gives, after lines of which the last had that kind
-abbrev pub LineTaken : Book → Option LineKind → List ℕ → Option Taken → List ℕ → Type 0
-LineTaken b last line taken rows_after =
-    MatchOption taken (NoneTaken b (line_after last line) rows_after) (λ t. CallTaken b (line_after last line) t rows_after)
+abbrev pub LineTaken : Running → Option LineKind → List ℕ → Option Taken → List ℕ → List ℤ → Type 0
+LineTaken r last line taken rows_after cells_after =
+    MatchOption taken (NoneTaken r (line_after last line) rows_after cells_after) (λ t. CallTaken r (line_after last line) t rows_after cells_after)

@@ -1,5 +1,5 @@
 // The call of a line, and what it answers.
-ghost use Rattle.book.specs.Book.{lent};
+ghost use Rattle.running.specs.Running.{running_of};
 ghost use Rattle.period_file.specs.Lines.{LineTaken};
 
 use crate::lines::{call_kind, read_line};
@@ -12,12 +12,13 @@ pub fn answer_line(
     settings: Settings,
     last: Option<LineKind>,
     rows: &mut [u64],
+    cells: &mut [i64],
     line: &[u8],
 ) -> Option<Taken>
-    ensures { LineTaken (lent settings rows.old) last line.now result rows.new }
+    ensures { LineTaken (running_of settings rows.old cells.old) last line.now result rows.new cells.new }
 {
     let call = read_line(line, last)?;
     let kind = call_kind(call);
-    let outcome = make_call(settings, rows, call);
+    let outcome = make_call(settings, rows, cells, call);
     Some(Taken { kind, outcome })
 }

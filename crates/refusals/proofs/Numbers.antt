@@ -2,7 +2,7 @@
 use mathlib.Core.Path.{◌≡◌}
 use native.Mathlib.Omega.{arith}
 use Rattle.refusals.specs.declared.Refusal.{Refusal}
-use Rattle.refusals.specs.declared.Refusal.TheVariants.{BookIllFormed, ArgumentOutOfRange, QualityRefused, MeterUnknown, IssueNotAbove, CapacityReached, VolumesShort, TakeUnset, ShapeOfDefaultMissing, WeightedBelowOne, ToleranceExceeded, TotalsShort, ListMisshapen}
+use Rattle.refusals.specs.declared.Refusal.TheVariants.{BookIllFormed, ArgumentOutOfRange, QualityRefused, MeterUnknown, IssueNotAbove, CapacityReached, VolumesShort, TakeUnset, ShapeOfDefaultMissing, WeightedBelowOne, ToleranceExceeded, TotalsShort, CellsShort, ListMisshapen}
 use Rattle.refusals.specs.Causes.{accepted}
 use Rattle.refusals.specs.Refusal.{number_of}
 
@@ -20,4 +20,5 @@ not-accepted ShapeOfDefaultMissing e = omega arith
 not-accepted WeightedBelowOne e = omega arith
 not-accepted ToleranceExceeded e = omega arith
 not-accepted TotalsShort e = omega arith
+not-accepted CellsShort e = omega arith
 not-accepted ListMisshapen e = omega arith

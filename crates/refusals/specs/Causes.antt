@@ -38,6 +38,10 @@ tolerance_exceeded = 11
 abbrev pub totals_short : ℕ
 totals_short = 12
 
+-- document 02, request 4: "Refusal 13, before 1, is a cell slice shorter than 836 words"
+abbrev pub cells_short : ℕ
+cells_short = 13
+
 -- a calls slice that is no whole number of calls, or a numbers slice that is too short
 abbrev pub list_misshapen : ℕ
 list_misshapen = 19

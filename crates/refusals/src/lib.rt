@@ -22,6 +22,7 @@ pub enum Refusal {
     WeightedBelowOne = 10,
     ToleranceExceeded = 11,
     TotalsShort = 12,
+    CellsShort = 13,
     // A calls slice that is no whole number of calls, or a numbers slice that is too short.
     ListMisshapen = 19,
 }

@@ -1,5 +1,6 @@
 -- Laws of the program's definitions, each cited by the functions that gather and print.
 pub mod Bytes
-pub mod Example
 pub mod Attempts
+pub mod RowsAlone
+pub mod Example
 pub mod Streams

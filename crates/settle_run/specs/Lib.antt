@@ -3,3 +3,4 @@ pub mod Program
 pub mod Helpers
 pub mod Streams
 pub mod Example
+pub mod RowsAlone

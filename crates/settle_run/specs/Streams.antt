@@ -4,7 +4,7 @@ use Rattle.std.specs.IoError.{error_kind}
 use Rattle.std.specs.declared.io.Error.{Error}
 use Rattle.std.specs.declared.io.ErrorKind.TheVariants.{Interrupted, WouldBlock}
 use Rattle.std.specs.Io.KnownBytes.{Appends, Consumes, IsAtEnd}
-use Rattle.settle_run.specs.Program.{Step, is_reading, Attempt, gave, again, failed, take_bytes, ended}
+use Rattle.settle_run.specs.Program.{Step, is_reading, Attempt, gave, again, failed, ended, by_cells, take_bytes}
 use Rattle.settle_run.specs.Helpers.{Turned}
 
 -- a failure after which a call may be made again: a signal came, or a pipe that does not wait is full or empty for now
@@ -38,14 +38,14 @@ pub record TurnedOver (before now : Step) (left left₂ written written₂ : Opt
 pub record ReadOver (before now : Step) (left left₂ written written₂ : Option (List ℕ)) : Type 0 where
   pub bytes : List ℕ
   pub consumed : Consumes left left₂ bytes
-  pub at_end : is_reading (take_bytes before.work bytes).work.phase ≡ true → IsAtEnd left₂
-  pub work : now.work ≡ ended (take_bytes before.work bytes).work
+  pub at_end : is_reading (take_bytes by_cells before.work bytes).work.phase ≡ true → IsAtEnd left₂
+  pub work : now.work ≡ ended (take_bytes by_cells before.work bytes).work
   pub text : List ℕ
   pub appended : Appends written written₂ text
-  pub printed : text ++ now.text ≡ before.text ++ (take_bytes before.work bytes).text
+  pub printed : text ++ now.text ≡ before.text ++ (take_bytes by_cells before.work bytes).text
 
 -- what turns leave that a failure broke off: the reader lost some bytes, and a beginning of what they print was written
 pub record BrokenOff (before : Step) (left left₂ written written₂ : Option (List ℕ)) : Type 0 where
   pub bytes : List ℕ
   pub consumed : Consumes left left₂ bytes
-  pub begun : AppendsSome written written₂ (before.text ++ (take_bytes before.work bytes).text)
+  pub begun : AppendsSome written written₂ (before.text ++ (take_bytes by_cells before.work bytes).text)

@@ -6,9 +6,10 @@ mod input;
 mod lines;
 mod output;
 
-ghost use Rattle.std.specs.Prelude.{OnOk, IfErr, OnErr, IfSome, replicate};
+ghost use Rattle.std.specs.Prelude.{OnOk, IfErr, OnErr, IfSome, replicate, pos};
 ghost use Rattle.std.specs.Io.KnownBytes.{Appends};
-ghost use Rattle.settle_run.specs.Program.{settle_text};
+ghost use Rattle.running.specs.Words.{slice_words};
+ghost use Rattle.settle_run.specs.Program.{by_cells, settle_text};
 ghost use Rattle.settle_run.specs.Helpers.{HasRoom, Read};
 ghost use Rattle.settle_run.specs.Streams.{AppendsSome, Passes, ReadOver, BrokenOff};
 
@@ -58,9 +59,9 @@ fn read_all<R: Read, W: Write>(
 
 // Reads a period file and prints what comes of it.
 pub fn run<R: Read, W: Write>(clock: &impl Clock, reader: &mut R, writer: &mut W) -> io::Result<()>
-    ensures ok { OnOk result (IfSome (R.remaining reader.old) (λ input. Appends (W.contents writer.old) (W.contents writer.new) (settle_text (replicate ROW_WORDS 0) input))) }
+    ensures ok { OnOk result (IfSome (R.remaining reader.old) (λ input. Appends (W.contents writer.old) (W.contents writer.new) (settle_text by_cells (replicate ROW_WORDS 0) (replicate slice_words (pos 0)) input))) }
     ensures lasting { IfErr result (λ e. ¬ Passes e) }
-    ensures err { OnErr result (IfSome (R.remaining reader.old) (λ input. AppendsSome (W.contents writer.old) (W.contents writer.new) (settle_text (replicate ROW_WORDS 0) input))) }
+    ensures err { OnErr result (IfSome (R.remaining reader.old) (λ input. AppendsSome (W.contents writer.old) (W.contents writer.new) (settle_text by_cells (replicate ROW_WORDS 0) (replicate slice_words (pos 0)) input))) }
 {
     let mut progress = Progress::fresh();
     read_all(clock, reader, writer, &mut progress)?;

@@ -1,8 +1,9 @@
 // Lines gathered from the bytes that reads give, whatever the sizes of the reads, and what is printed of them.
-ghost use Rattle.std.specs.Prelude.{◌≡◌, ◌+◌, ◌*◌, ◌≤◌, ◌++◌, IfErr, OnOk, OnErr, length, replicate};
+ghost use Rattle.std.specs.Prelude.{◌≡◌, ◌+◌, ◌*◌, ◌≤◌, ◌++◌, IfErr, OnOk, OnErr, length, replicate, pos};
 ghost use Rattle.std.specs.Io.KnownBytes.{Appends};
+ghost use Rattle.running.specs.Words.{slice_words};
 ghost use Rattle.settle_run.specs.declared.TheConstants.{OUT_BYTES};
-ghost use Rattle.settle_run.specs.Program.{is_reading, fresh_work, quiet, out_of_form, end_line, take_byte, take_bytes, take_read, end_input, closing_text, end_text};
+ghost use Rattle.settle_run.specs.Program.{is_reading, fresh_work, quiet, out_of_form, by_cells, end_line, take_byte, take_bytes, take_read, end_input, closing_text, end_text};
 ghost use Rattle.settle_run.specs.Helpers.{Took};
 ghost use Rattle.settle_run.specs.Streams.{AppendsSome, Passes};
 
@@ -16,6 +17,7 @@ use period_file::LineKind;
 use period_file::answer::answer_line;
 use period_file::lines::LINE_MAX;
 use report::lines::{put_allocation, put_bad_line, put_refused};
+use running::SLICE_WORDS;
 use std::io;
 use std::io::Write;
 use std::marker::Model;
@@ -28,6 +30,7 @@ const LINE_FEED: u8 = b'\n';
 pub struct Progress {
     settings: Settings,
     rows: [u64; ROW_WORDS],
+    cells: [i64; SLICE_WORDS],
     phase: Phase,
     // The kind of the last line, if there was one.
     last_kind: Option<LineKind>,
@@ -39,14 +42,14 @@ pub struct Progress {
 }
 
 impl Model for Progress {
-    ghost use Rattle.book.specs.Book.{lent};
+    ghost use Rattle.running.specs.Running.{running_of};
     ghost use Rattle.settle_run.specs.Program.{Step};
 
     ghost Value = { Step };
 
     ghost view = { λ p. record {
       work = record {
-        book = lent p.settings p.rows;
+        running = running_of p.settings p.rows p.cells;
         phase = p.phase;
         last_kind = p.last_kind;
         number = p.number;
@@ -60,11 +63,12 @@ impl Progress {
     // Before the first byte.
     // Kept: named as the constructor of the settings is, and no `Default`: the first line is 1, and a derive would give 0.
     pub fn fresh() -> Progress
-        ensures { result ≡ quiet (fresh_work (replicate ROW_WORDS 0)) }
+        ensures { result ≡ quiet (fresh_work (replicate ROW_WORDS 0) (replicate slice_words (pos 0))) }
     {
         Progress {
             settings: Settings::fresh(),
             rows: [0; ROW_WORDS],
+            cells: [0; SLICE_WORDS],
             phase: Phase::Reading,
             last_kind: None,
             number: 1,
@@ -90,13 +94,20 @@ impl Progress {
     }
 
     // The end of a line: its call is made, and a refusal printed.
-    #[tactic(auto, unfolding(crate::specs::Program::end_line))]
+    #[tactic(auto, unfolding(crate::specs::Program::by_cells, crate::specs::Program::end_line))]
     fn end_line(&mut self)
         requires { length self.old.text + 50 ≤ OUT_BYTES }
-        ensures { Took (end_line self.old.work) 50 self.old self.new }
+        ensures { Took (end_line by_cells self.old.work) 50 self.old self.new }
     {
         let line = self.gathered.as_slice();
-        let Some(taken) = answer_line(self.settings, self.last_kind, &mut self.rows, line) else {
+        let settings = self.settings;
+        let Some(taken) = answer_line(
+            settings,
+            self.last_kind,
+            &mut self.rows,
+            &mut self.cells,
+            line,
+        ) else {
             return self.stop();
         };
         let number = self.number;
@@ -113,7 +124,7 @@ impl Progress {
     #[tactic(auto, unfolding(crate::specs::Program::take_byte))]
     fn take_byte(&mut self, byte: u8)
         requires { length self.old.text + 50 ≤ OUT_BYTES }
-        ensures { Took (take_byte self.old.work byte) 50 self.old self.new }
+        ensures { Took (take_byte by_cells self.old.work byte) 50 self.old self.new }
     {
         if !self.is_reading() {
             return;
@@ -131,7 +142,7 @@ impl Progress {
     #[tactic(auto, using(crate::proofs::Bytes::one_taken, std::proofs::lemmas::Grind::common_steps), unfolding(crate::specs::Program::take_bytes))]
     fn feed(&mut self, bytes: &[u8])
         requires { length self.old.text + 50 * length bytes.now ≤ OUT_BYTES }
-        ensures { Took (take_bytes self.old.work bytes.now) (50 * length bytes.now) self.old self.new }
+        ensures { Took (take_bytes by_cells self.old.work bytes.now) (50 * length bytes.now) self.old self.new }
     {
         for byte in bytes {
             self.take_byte(*byte);
@@ -142,7 +153,7 @@ impl Progress {
     #[tactic(auto, unfolding(crate::specs::Program::take_read))]
     pub fn take_read(&mut self, bytes: &[u8])
         requires { length self.old.text + 50 * length bytes.now ≤ OUT_BYTES }
-        ensures { Took (take_read self.old.work bytes.now) (50 * length bytes.now) self.old self.new }
+        ensures { Took (take_read by_cells self.old.work bytes.now) (50 * length bytes.now) self.old self.new }
     {
         if bytes.is_empty() {
             self.phase = Phase::InputEnded;
@@ -155,7 +166,7 @@ impl Progress {
     #[tactic(auto, unfolding(crate::specs::Program::end_input))]
     fn end_input(&mut self)
         requires { length self.old.text + 50 ≤ OUT_BYTES }
-        ensures { Took (end_input self.old.work) 50 self.old self.new }
+        ensures { Took (end_input by_cells self.old.work) 50 self.old self.new }
     {
         if self.phase == Phase::InputEnded && !self.gathered.is_empty() {
             self.end_line();
@@ -163,15 +174,15 @@ impl Progress {
     }
 
     // Allocates, where the whole input was in form, and prints the outcome.
-    #[tactic(auto, unfolding(crate::specs::Program::closing_text))]
+    #[tactic(auto, unfolding(crate::specs::Program::by_cells, crate::specs::Program::closing_text))]
     fn print_allocation(&mut self)
         requires { length self.old.text + 2048 ≤ OUT_BYTES }
-        ensures text { self.new.text ≡ self.old.text ++ closing_text self.old.work }
+        ensures text { self.new.text ≡ self.old.text ++ closing_text by_cells self.old.work }
         ensures short { length self.new.text ≤ length self.old.text + 2048 }
     {
         if self.phase == Phase::InputEnded {
             let mut volumes = [0i64; 32];
-            let outcome = allocate(self.settings, &self.rows, &mut volumes);
+            let outcome = allocate(self.settings, &self.rows, &self.cells, &mut volumes);
             put_allocation(&mut self.waiting, Allocated::from(outcome), &volumes);
         }
     }
@@ -180,7 +191,7 @@ impl Progress {
     #[tactic(auto, unfolding(crate::specs::Program::end_text))]
     pub fn finish(&mut self)
         requires { length self.old.text + 2098 ≤ OUT_BYTES }
-        ensures { self.new.text ≡ self.old.text ++ end_text self.old.work }
+        ensures { self.new.text ≡ self.old.text ++ end_text by_cells self.old.work }
     {
         self.end_input();
         self.print_allocation();

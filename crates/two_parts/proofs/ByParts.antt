@@ -19,7 +19,7 @@ use Rattle.book.specs.Rows.{Row, rows_formed, is_known, issue_held, with_registr
 use Rattle.book.specs.Store.{reading_call_in_range, has_no_room, word_cause, reading_cause}
 use Rattle.book.specs.Helpers.{held_in, storing, asked_of, word_storing, reading_storing}
 use Rattle.book.proofs.StoredFormed.{rows-read}
-use Rattle.book.proofs.Storing.{asked-formed}
+use Rattle.calls.proofs.Storing.{asked-formed}
 use Rattle.book.proofs.HeldIn.{reading_of, issue-held}
 use Rattle.book.proofs.WithRegistration.{length_inserted, length-replaced}
 use Rattle.book.proofs.WithReading.{length-reading}
@@ -45,7 +45,7 @@ module _ {A B : List Row} (apart : RowsApart A B) where
 -- the word of a registration that was tested
 module _ (m : ℕ) (r : Registration) {w : ℕ} (asked : asked_of m r ≡ Ok w) where
   module _ (capacity : ℕ) (A B : List Row) (apart : RowsApart A B) where
-    pub word-in-first : is_known m A ≡ true → InFirst (word_storing capacity m w (merged A B)) (word_storing capacity m w A) A B
+    word-in-first : is_known m A ≡ true → InFirst (word_storing capacity m w (merged A B)) (word_storing capacity m w A) A B
     unfolding word_storing has_no_room
     word-in-first known =
         let not-later = apart-the-other-way A B apart.apart m known in
@@ -61,7 +61,7 @@ module _ (m : ℕ) (r : Registration) {w : ℕ} (asked : asked_of m r ≡ Ok w) 
           },
         )))
 
-    pub word-in-later : is_known m A ≡ false → length A + length B ≤ capacity → InLater capacity (word_storing capacity m w (merged A B)) (word_storing (capacity - length A) m w B) A B
+    word-in-later : is_known m A ≡ false → length A + length B ≤ capacity → InLater capacity (word_storing capacity m w (merged A B)) (word_storing (capacity - length A) m w B) A B
     unfolding word_storing has_no_room
     word-in-later unknown fits =
         let full : leb capacity (length (merged A B)) ≡ leb (capacity - length A) (length B) =
@@ -88,6 +88,9 @@ module _ (m : ℕ) (r : Registration) {w : ℕ} (asked : asked_of m r ≡ Ok w) 
             apart = registered-later-apart m w A B apart.apart unknown;
           },
         )))
+
+  pub word-by-parts : GoesByParts m (λ capacity. word_storing capacity m w)
+  word-by-parts = record { in_first = word-in-first; in_later = word-in-later }
 
 -- rows that take a reading stay well formed
 recorded-formed : (m : ℕ) (r : Reading) (rows : List Row) → rows_formed 0 rows ≡ true → reading_cause m r rows ≡ accepted → rows_formed 0 (with_reading m (reading_word r) rows) ≡ true

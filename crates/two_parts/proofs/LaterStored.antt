@@ -5,27 +5,26 @@ use mathlib.Core.Bool.{true, false}
 use mathlib.Core.List.{List}
 use native.Mathlib.Omega.{arith}
 use borrow.Rule.Slice.PartMut.{mid_of}
+use lib.IntN.{ℤ}
 use lib.ListN.{length, drop}
-use Rattle.std.specs.Prelude.{Result, Ok, Err, IfOk}
+use Rattle.std.specs.Prelude.{Result, Ok, Err}
 use Rattle.words.proofs.Tests.{by-test}
 use Rattle.refusals.specs.declared.Refusal.{Refusal}
-use Rattle.refusals.specs.Refusal.{number_of, number_given}
+use Rattle.refusals.specs.Refusal.{number_given}
 use Rattle.refusals.proofs.Numbers.{not-accepted}
-use Rattle.book.specs.declared.Stored.{Stored}
 use Rattle.book.specs.Rows.{Row, capacity, rows_of, written, rows_formed, is_known}
-use Rattle.book.specs.Helpers.{place_of, place_in, held_in, Storing, RowsReady, Tells, Stores}
+use Rattle.book.specs.Helpers.{place_of, place_in, Storing, RowsReady}
 use Rattle.book.proofs.BookFormed.{capacity-same}
 use Rattle.book.proofs.Placed.{known-is, index-is}
 use Rattle.book.proofs.PlaceOf.{known-within-in}
 use Rattle.book.proofs.RowsOf.{length-rows}
 use Rattle.book.proofs.Written.{length-written, rows-of-written}
-use Rattle.two_parts.specs.TwoParts.{later_rows, RowsApart, PartsReady}
+use Rattle.calls.specs.Stores.{kept_storing, Stores}
 use Rattle.calls.specs.Helpers.{meters_after}
-use Rattle.two_parts.specs.Apart.{counted}
-use Rattle.two_parts.specs.ByParts.{InLater}
+use Rattle.two_parts.specs.TwoParts.{later_rows, RowsApart, PartsReady}
+use Rattle.two_parts.proofs.KeptByParts.{KeptInLater}
 use Rattle.two_parts.proofs.LentPart.{part_after, put_after, part_length, part-capacity, part-rows, put-length, put_first, put-later, put-tail}
-use Rattle.two_parts.proofs.Merged.{held-merged-later}
-use Rattle.two_parts.proofs.StoredApart.{tail_written, whole, LeavesApart, ToldOf, leaves-apart}
+use Rattle.two_parts.proofs.StoredApart.{tail_written, whole, counted, LeavesApart, leaves-apart}
 
 pub later-count : (first later : ℕ) (words : List ℕ) → length (later_rows first later words) ≡ later
 unfolding later_rows
@@ -105,45 +104,54 @@ index-first first m words found e = omega (arith, index-is m (rows_of first word
 pub ruleset lent = (lent-within, lent-formed, lent-place, index-first)
 
 -- storing that leaves in the later part what it leaves in the whole
-module _ (m first later : ℕ) (words : List ℕ) (ready : PartsReady first later words) (store store_there : List Row → Storing)
-    (x : InLater (capacity words) (store (whole first later words)) (store_there (later_rows first later words)) (rows_of first words) (later_rows first later words))
-    (not_first : is_known m (rows_of first words) ≡ false) where
-  abbrev A : List Row
-  A = rows_of first words
-
+module _ (first later : ℕ) (words : List ℕ) (ready : PartsReady first later words) (store store_there : List Row → Storing) (shapes : List ℕ) (cells : List ℤ)
+    (x : KeptInLater (capacity words) (kept_storing shapes cells (whole first later words) (store (whole first later words)))
+    (kept_storing shapes cells (later_rows first later words) (store_there (later_rows first later words))) (rows_of first words) (later_rows first later words)) where
   abbrev rows : List Row
-  rows = (store_there (later_rows first later words)).rows
+  rows = (kept_storing shapes cells (later_rows first later words) (store_there (later_rows first later words))).rows
 
-  written-later : (outcome : Result Stored Refusal) {count : ℕ} {part : List ℕ} → count ≡ length rows → part ≡ written rows (part_after first words) → number_given outcome ≡ (store_there (later_rows first later words)).number
-      → IfOk outcome (ToldOf m (whole first later words) (store (whole first later words)).rows) → first + count ≡ meters_after (first + later) (counted (first + count) outcome)
-      → LeavesApart m store first later words count outcome (put_after first words part)
-  written-later outcome e p n t meters =
-      let fits : first + length rows ≤ capacity words = omega (arith, x.fits, length-rows first words) in
-      rw (e, p)
-      (leaves-apart m first later words ready store (length rows) (put_after first words (written rows (part_after first words))) (omega (arith, x.more, later-count first later words))
-      (new-tail first later words ready rows fits x.parts)
+  -- of the rows lent
+  pub record Left (outcome : Result ℕ Refusal) (part : List ℕ) (cells' : List ℤ) : Type 0 where
+    pub number : number_given outcome ≡ (kept_storing shapes cells (later_rows first later words) (store_there (later_rows first later words))).number
+    pub count : meters_after later outcome ≡ length rows
+    pub slice : part ≡ written rows (part_after first words)
+    pub cells_are : cells' ≡ (kept_storing shapes cells (later_rows first later words) (store_there (later_rows first later words))).cells
+
+  left : {outcome : Result ℕ Refusal} {part : List ℕ} {cells' : List ℤ} → Stores store_there shapes later (part_after first words) cells outcome part cells' → Left outcome part cells'
+  left {outcome = Ok n} s =
+      record {
+        number = rw (lent_rows first later words ready) at s.number;
+        count = rw (lent_rows first later words ready) at s.counted;
+        slice = rw (lent_rows first later words ready) at s.slice;
+        cells_are = rw (lent_rows first later words ready) at s.cells_are;
+      }
+  left {outcome = Err refusal} s =
+      let n = rw (lent_rows first later words ready) at s.number in
+      record {
+        number = n;
+        count = sym (ap length (x.leaves.refused (λ e. not-accepted refusal (n ∙ e))) ∙ later-count first later words);
+        slice = rw (lent_rows first later words ready) at s.slice;
+        cells_are = rw (lent_rows first later words ready) at s.cells_are;
+      }
+
+  pub later-most : {outcome : Result ℕ Refusal} {part : List ℕ} {cells' : List ℤ} → Stores store_there shapes later (part_after first words) cells outcome part cells' → meters_after later outcome ≤ later + 1
+  later-most s = omega (arith, (left s).count, x.leaves.most, later-count first later words)
+
+  pub later-stored : {outcome : Result ℕ Refusal} {part : List ℕ} {cells' : List ℤ} → Stores store_there shapes later (part_after first words) cells outcome part cells'
+      → LeavesApart store shapes first later words cells (meters_after later outcome) outcome (put_after first words part) cells'
+  later-stored {outcome} s =
+      let l = left s in
+      let fits : first + length rows ≤ capacity words = omega (arith, x.leaves.fits, length-rows first words) in
+      rw (l.count, l.slice)
+      (leaves-apart first later words ready store shapes cells (length rows) (put_after first words (written rows (part_after first words))) (omega (arith, x.leaves.more, later-count first later words))
+      (new-tail first later words ready rows fits x.leaves.parts)
       outcome
-      (new-ready first later words ready rows fits x.parts)
-      (n ∙ sym x.number)
-      (x.rows ∙ rw (new-first first later words ready rows fits x.parts, new-later first later words ready rows fits x.parts))
-      t
-      (rw e at meters))
-
-  count-after : (outcome : Result Stored Refusal) {part : List ℕ} → Stores m store_there later (part_after first words) outcome part → meters_after later outcome ≡ length rows
-  count-after (Err refusal) s =
-      let n : number_of refusal ≡ (store_there (later_rows first later words)).number = rw (lent_rows first later words ready) at s.number in
-      sym (ap length (x.refused (λ e. not-accepted refusal (n ∙ e))) ∙ later-count first later words)
-  count-after (Ok stored) s = let t : Tells m (later_rows first later words) rows stored = rw (lent_rows first later words ready) at s.told in t.meters
-
-  pub later-most : {outcome : Result Stored Refusal} {part : List ℕ} → Stores m store_there later (part_after first words) outcome part → meters_after later outcome ≤ later + 1
-  later-most {outcome} s = omega (arith, count-after outcome s, x.most, later-count first later words)
-
-  pub later-stored : {outcome : Result Stored Refusal} {part : List ℕ} → Stores m store_there later (part_after first words) outcome part
-      → LeavesApart m store first later words (meters_after later outcome) outcome (put_after first words part)
-  later-stored {outcome = Err refusal} s =
-      written-later (Err refusal) (count-after (Err refusal) s) (rw (lent_rows first later words ready) at s.slice) (rw (lent_rows first later words ready) at s.number) tt refl
-  later-stored {outcome = Ok stored} s =
-      let t : Tells m (later_rows first later words) rows stored = rw (lent_rows first later words ready) at s.told in
-      written-later (Ok stored) t.meters (rw (lent_rows first later words ready) at s.slice) (rw (lent_rows first later words ready) at s.number)
-      (t.before ∙ sym (held-merged-later m A (later_rows first later words) not_first), t.after ∙ sym (ap (held_in m) x.rows ∙ held-merged-later m A rows not_first))
-      refl
+      (new-ready first later words ready rows fits x.leaves.parts)
+      (l.number ∙ sym x.leaves.number)
+      (x.leaves.rows ∙ rw (new-first first later words ready rows fits x.leaves.parts, new-later first later words ready rows fits x.leaves.parts))
+      (l.cells_are ∙ sym x.cells)
+      (meters outcome l.count))
+    where
+      meters : (outcome : Result ℕ Refusal) → meters_after later outcome ≡ length rows → first + length rows ≡ meters_after (first + later) (counted (first + length rows) outcome)
+      meters (Ok n) e = refl
+      meters (Err refusal) e = ap (λ (k : ℕ). first + k) (sym e)

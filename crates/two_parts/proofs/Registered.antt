@@ -1,20 +1,20 @@
 -- A registration stored in two parts: one out of range leaves them, and the word of any other is stored.
+use Prim.Native.Nat.{ℕ}
 use mathlib.Core.Path.{◌≡◌, refl, sym}
+use mathlib.Core.List.{List}
+use lib.IntN.{ℤ}
 use Rattle.std.specs.Prelude.{Result, Ok, Err}
 use Rattle.refusals.specs.declared.Refusal.{Refusal}
 use Rattle.words.specs.declared.Registration.{Registration}
-use Prim.Native.Nat.{ℕ}
-use Rattle.book.specs.declared.Stored.{Stored}
 use Rattle.book.specs.Rows.{capacity}
 use Rattle.book.specs.Helpers.{asked_of, word_storing, registration_storing}
-use Rattle.book.proofs.Storing.{asked-refused, asked-stores}
+use Rattle.calls.proofs.Storing.{asked-refused, asked-stores}
 use Rattle.two_parts.specs.declared.Parts.{Parts}
 use Rattle.two_parts.specs.Apart.{StoresApart}
 use Rattle.two_parts.proofs.AsOne.{as-one-ready, as-one-capacity}
-use Rattle.two_parts.proofs.ByParts.{word-in-first, word-in-later}
 
 module _ (m : ℕ) (r : Registration) (before : Parts) where
-  pub refused-apart : {refusal : Refusal} → Err refusal ≡ asked_of m r → StoresApart m (registration_storing (capacity before.rows.now) m r) before before (Err refusal)
+  pub refused-apart : {refusal : Refusal} {shapes : List ℕ} {cells : List ℤ} → Err refusal ≡ asked_of m r → StoresApart (registration_storing (capacity before.rows.now) m r) shapes before cells before (Err refusal) cells
   refused-apart e =
       record {
         leaves = record {
@@ -24,11 +24,8 @@ module _ (m : ℕ) (r : Registration) (before : Parts) where
         };
       }
 
-  pub asked-apart : {word : ℕ} {after : Parts} {outcome : Result Stored Refusal} → Ok word ≡ asked_of m r → StoresApart m (word_storing (capacity before.rows.now) m word) before after outcome
-      → StoresApart m (registration_storing (capacity before.rows.now) m r) before after outcome
+  pub asked-apart : {word : ℕ} {shapes : List ℕ} {cells cells' : List ℤ} {after : Parts} {outcome : Result ℕ Refusal} → Ok word ≡ asked_of m r
+      → StoresApart (word_storing (capacity before.rows.now) m word) shapes before cells after outcome cells' → StoresApart (registration_storing (capacity before.rows.now) m r) shapes before cells after outcome cells'
   asked-apart e s =
       let x = s.leaves in
       record { leaves = record { same_slice = x.same_slice; stores = asked-stores _ _ _ (sym e) x.stores; counted = x.counted } }
-
--- for the search for a proof
-pub ruleset registered = (refused-apart, asked-apart, word-in-first, word-in-later)

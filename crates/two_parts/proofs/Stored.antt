@@ -1,50 +1,53 @@
 -- What storing that goes by parts leaves in two parts: the meter is of the first part, or of the later one.
-use Prim.Native.Nat.{ℕ, ◌-◌, ◌*◌, ◌≤◌, ◌<◌}
+use Prim.Native.Nat.{ℕ, ◌+◌, ◌-◌, ◌*◌, ◌≤◌, ◌<◌}
 use mathlib.Core.Path.{◌≡◌}
 use mathlib.Core.Bool.{false}
 use mathlib.Core.List.{List}
 use native.Mathlib.Omega.{arith}
 use borrow.Rule.Slice.PartMut.{mid_of, put_mid}
+use lib.IntN.{ℤ}
+use lib.ListN.{length}
 use Rattle.std.specs.Prelude.{Result, Ok}
 use Rattle.refusals.specs.declared.Refusal.{Refusal}
-use Rattle.book.specs.declared.Stored.{Stored}
 use Rattle.book.specs.Rows.{Row, capacity, rows_of, is_known}
-use Rattle.book.specs.Helpers.{place_in, Storing, Stores}
+use Rattle.book.specs.Helpers.{place_in, Storing}
 use Rattle.book.proofs.Placed.{known-is}
 use Rattle.book.proofs.RowsOf.{length-rows}
-use Rattle.two_parts.specs.TwoParts.{later_rows, later_most, PartsReady}
+use Rattle.calls.specs.Stores.{kept_storing, Stores}
 use Rattle.calls.specs.Helpers.{meters_after}
-use Rattle.two_parts.specs.ByParts.{InLater, GoesByParts}
-use Rattle.two_parts.proofs.KnownAfter.{apart-the-other-way}
+use Rattle.two_parts.specs.TwoParts.{later_rows, later_most, PartsReady}
+use Rattle.two_parts.specs.ByParts.{GoesByParts}
+use Rattle.two_parts.proofs.KeptByParts.{KeptInLater, kept-in-first, kept-in-later}
 use Rattle.two_parts.proofs.LentPart.{part_after, part-capacity}
 use Rattle.two_parts.proofs.StoredApart.{LeavesApart, whole, first-stored}
 use Rattle.two_parts.proofs.LaterStored.{first-within, later-count, later-most, later-stored, not-found}
 
 module _ {first later : ℕ} {words : List ℕ} (ready : PartsReady first later words) {m : ℕ} {store : ℕ → List Row → Storing} (by-parts : GoesByParts m store) {place : Result ℕ ℕ} (found : place ≡ place_in m (rows_of first words)) where
-  pub stored-there : {k : ℕ} {outcome : Result Stored Refusal} {words_after : List ℕ} → place ≡ Ok k → Stores m (store (capacity words)) first words outcome words_after → LeavesApart m (store (capacity words)) first later words later outcome words_after
-  stored-there e =
-      let known = known-is m (rows_of first words) found e in
-      first-stored m first later words ready (store (capacity words)) (by-parts.in_first (capacity words) (rows_of first words) (later_rows first later words) ready.rows known)
-      (apart-the-other-way (rows_of first words) (later_rows first later words) ready.rows.apart m known)
+  pub stored-there : {k : ℕ} {shapes : List ℕ} {cells : List ℤ} {outcome : Result ℕ Refusal} {words_after : List ℕ} {cells_after : List ℤ} → place ≡ Ok k
+      → Stores (store (capacity words)) shapes first words cells outcome words_after cells_after → LeavesApart (store (capacity words)) shapes first later words cells later outcome words_after cells_after
+  stored-there {shapes = shapes} {cells = cells} e =
+      first-stored first later words ready (store (capacity words)) shapes cells
+      (kept-in-first shapes cells ready.rows
+      (by-parts.in_first (capacity words) (rows_of first words) (later_rows first later words) ready.rows (known-is m (rows_of first words) found e)))
 
   module _ (elsewhere : (k : ℕ) → place ≡ Ok k → ⊥) where
     unknown : is_known m (rows_of first words) ≡ false
     unknown = not-found m (rows_of first words) found elsewhere
 
-    in-later : InLater (capacity words) (store (capacity words) (whole first later words)) (store (capacity (part_after first words)) (later_rows first later words)) (rows_of first words) (later_rows first later words)
-    in-later =
-        let x =
-        by-parts.in_later (capacity words) (rows_of first words) (later_rows first later words) ready.rows unknown
-        (omega (arith, length-rows first words, later-count first later words, ready.within-capacity)) in
-        rw (part-capacity first words (first-within first later words ready)) (rw (length-rows first words) at x)
+    in-later : (shapes : List ℕ) (cells : List ℤ) → KeptInLater (capacity words) (kept_storing shapes cells (whole first later words) (store (capacity words) (whole first later words)))
+        (kept_storing shapes cells (later_rows first later words) (store (capacity (part_after first words)) (later_rows first later words))) (rows_of first words) (later_rows first later words)
+    in-later shapes cells =
+        let fits : length (rows_of first words) + length (later_rows first later words) ≤ capacity words = omega (arith, length-rows first words, later-count first later words, ready.within-capacity) in
+        let x = by-parts.in_later (capacity words) (rows_of first words) (later_rows first later words) ready.rows unknown fits in
+        rw (part-capacity first words (first-within first later words ready)) (kept-in-later shapes cells ready.rows fits (rw (length-rows first words) at x))
 
     -- the part is lent up to a number of rows that is the capacity
-    module _ {cap count : ℕ} {outcome : Result Stored Refusal} {part : List ℕ} (e : cap ≡ capacity words)
-        (x : Stores m (store (capacity (mid_of (3 * first) (3 * cap - 3 * first) words))) later (mid_of (3 * first) (3 * cap - 3 * first) words) outcome part) (counts : count ≡ meters_after later outcome) where
-      pub stored-later : LeavesApart m (store (capacity words)) first later words count outcome (put_mid (3 * first) (3 * cap - 3 * first) words part)
-      stored-later = rw (counts, e) (later-stored m first later words ready (store (capacity words)) (store (capacity (part_after first words))) in-later unknown (rw e at x))
+    module _ {cap count : ℕ} {shapes : List ℕ} {cells : List ℤ} {outcome : Result ℕ Refusal} {part : List ℕ} {cells_after : List ℤ} (e : cap ≡ capacity words)
+        (x : Stores (store (capacity (mid_of (3 * first) (3 * cap - 3 * first) words))) shapes later (mid_of (3 * first) (3 * cap - 3 * first) words) cells outcome part cells_after) (counts : count ≡ meters_after later outcome) where
+      pub stored-later : LeavesApart (store (capacity words)) shapes first later words cells count outcome (put_mid (3 * first) (3 * cap - 3 * first) words part) cells_after
+      stored-later = rw (counts, e) (later-stored first later words ready (store (capacity words)) (store (capacity (part_after first words))) shapes cells (in-later shapes cells) (rw e at x))
 
       pub later-short : later < later_most → count ≤ later_most
       later-short h =
-          let most = later-most m first later words ready (store (capacity words)) (store (capacity (part_after first words))) in-later unknown (rw e at x) in
+          let most = later-most first later words ready (store (capacity words)) (store (capacity (part_after first words))) shapes cells (in-later shapes cells) (rw e at x) in
           omega arith

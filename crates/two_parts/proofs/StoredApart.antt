@@ -1,27 +1,25 @@
 -- Storing in rows in two parts: two parts again, and merged they are what storing leaves in the merged rows.
 use Prim.Native.Nat.{ℕ, ◌+◌, ◌-◌, ◌*◌, ◌≤◌}
 use mathlib.Core.Path.{◌≡◌, refl, sym, ◌∙◌, ap}
-use mathlib.Core.Bool.{false}
 use mathlib.Core.List.{List, ◌++◌}
 use native.Mathlib.Omega.{arith}
+use lib.IntN.{ℤ}
 use lib.ListN.{length, drop}
 use lib.Seq.{drop-append-add, drop-drop}
-use Rattle.std.specs.Prelude.{Some, Result, Ok, Err, IfOk}
+use Rattle.std.specs.Prelude.{Result, Ok, Err}
 use Rattle.refusals.specs.declared.Refusal.{Refusal}
 use Rattle.refusals.specs.Refusal.{number_given}
-use Rattle.book.specs.declared.Stored.{Stored}
-use Rattle.book.specs.Rows.{Row, rows_of, words_of, written, is_known}
-use Rattle.book.specs.Helpers.{held_in, Storing, Stores}
+use Rattle.book.specs.Rows.{Row, rows_of, words_of, written}
+use Rattle.book.specs.Helpers.{Storing}
 use Rattle.book.proofs.BookFormed.{capacity-same}
 use Rattle.book.proofs.RowsOf.{length-rows, length-words}
 use Rattle.book.proofs.WellFormed.{room}
 use Rattle.book.proofs.Written.{length-written, rows-of-written}
-use Rattle.two_parts.specs.TwoParts.{merged, later_rows, as_one, RowsApart, PartsReady}
+use Rattle.calls.specs.Stores.{StoringKept, kept_storing, Stores}
 use Rattle.calls.specs.Helpers.{meters_after}
-use Rattle.two_parts.specs.Apart.{counted}
-use Rattle.two_parts.specs.ByParts.{InFirst}
+use Rattle.two_parts.specs.TwoParts.{merged, later_rows, as_one, RowsApart, PartsReady}
 use Rattle.two_parts.proofs.AsOne.{as-one-count, as-one-rows}
-use Rattle.two_parts.proofs.Merged.{held-merged-first}
+use Rattle.two_parts.proofs.KeptByParts.{KeptInFirst}
 
 -- the words after the rows written are those that were there
 pub tail_written : (rows : List Row) (words : List ℕ) (j : ℕ) → 3 * length rows ≤ j → drop j (written rows words) ≡ drop j words
@@ -44,19 +42,23 @@ by-tail rows xs ys e = ap (λ (l : List ℕ). words_of rows ++ l) e
 abbrev pub whole : ℕ → ℕ → List ℕ → List Row
 whole first later words = merged (rows_of first words) (later_rows first later words)
 
+-- an outcome with the number of meters of both parts
+abbrev pub counted : ℕ → Result ℕ Refusal → Result ℕ Refusal
+counted meters (Ok n) = Ok meters
+counted meters (Err refusal) = Err refusal
+
 -- what storing in one of two parts leaves: two parts again, and merged they are what it leaves in the rows that they stand for
-pub record LeavesApart (m : ℕ) (store : List Row → Storing) (first later : ℕ) (words : List ℕ) (later' : ℕ) (outcome : Result Stored Refusal) (words' : List ℕ) : Type 0 where
+pub record LeavesApart (store : List Row → Storing) (shapes : List ℕ) (first later : ℕ) (words : List ℕ) (cells : List ℤ) (later' : ℕ) (outcome : Result ℕ Refusal) (words' : List ℕ) (cells' : List ℤ) : Type 0 where
   pub ready : PartsReady first later' words'
-  pub stores : Stores m store (first + later) (as_one first later words) (counted (first + later') outcome) (as_one first later' words')
+  pub stores : Stores store shapes (first + later) (as_one first later words) cells (counted (first + later') outcome) (as_one first later' words') cells'
   pub meters : first + later' ≡ meters_after (first + later) (counted (first + later') outcome)
 
--- what the meter m held and holds, as it is told
-abbrev pub ToldOf : ℕ → List Row → List Row → Stored → Type 0
-ToldOf m given made stored = (stored.before ≡ held_in m given) × (Some stored.after ≡ held_in m made)
-
 -- other words, with as many rows or more in the later part
-module _ (m first later : ℕ) (words : List ℕ) (ready : PartsReady first later words) (store : List Row → Storing) (later' : ℕ) (words' : List ℕ) (more : later ≤ later')
+module _ (first later : ℕ) (words : List ℕ) (ready : PartsReady first later words) (store : List Row → Storing) (shapes : List ℕ) (cells : List ℤ) (later' : ℕ) (words' : List ℕ) (more : later ≤ later')
     (tail : drop (3 * (first + later')) words' ≡ drop (3 * (first + later')) words) where
+  abbrev left : StoringKept
+  left = kept_storing shapes cells (whole first later words) (store (whole first later words))
+
   as-one-after : written (whole first later' words') (as_one first later words) ≡ as_one first later' words'
   unfolding as_one
   as-one-after =
@@ -67,23 +69,28 @@ module _ (m first later : ℕ) (words : List ℕ) (ready : PartsReady first late
       ∙ sym tail
       ∙ ap (λ (k : ℕ). drop (3 * k) words') (sym l))
 
-  pub leaves-apart : (outcome : Result Stored Refusal) → PartsReady first later' words' → number_given outcome ≡ (store (whole first later words)).number → (store (whole first later words)).rows ≡ whole first later' words'
-      → IfOk outcome (ToldOf m (whole first later words) (store (whole first later words)).rows) → first + later' ≡ meters_after (first + later) (counted (first + later') outcome)
-      → LeavesApart m store first later words later' outcome words'
-  leaves-apart (Ok stored) ready' n e t meters =
+  pub leaves-apart : (outcome : Result ℕ Refusal) {cells' : List ℤ} → PartsReady first later' words' → number_given outcome ≡ left.number → left.rows ≡ whole first later' words' → cells' ≡ left.cells
+      → first + later' ≡ meters_after (first + later) (counted (first + later') outcome) → LeavesApart store shapes first later words cells later' outcome words' cells'
+  leaves-apart (Ok n) ready' number e c meters =
       record {
         ready = ready';
         stores = record {
-          number = rw (as-one-rows first later words ready) n;
-          told = rw (as-one-rows first later words ready) (record { meters = sym (ap length e ∙ as-one-count first later' words'); before = t.0; after = t.1 });
+          number = rw (as-one-rows first later words ready) number;
+          counted = rw (as-one-rows first later words ready) (sym (ap length e ∙ as-one-count first later' words'));
           slice = rw (as-one-rows first later words ready, e) (sym as-one-after);
+          cells_are = rw (as-one-rows first later words ready) c;
         };
         meters = meters;
       }
-  leaves-apart (Err refusal) ready' n e t meters =
+  leaves-apart (Err refusal) ready' number e c meters =
       record {
         ready = ready';
-        stores = record { number = rw (as-one-rows first later words ready) n; told = tt; slice = rw (as-one-rows first later words ready, e) (sym as-one-after) };
+        stores = record {
+          number = rw (as-one-rows first later words ready) number;
+          counted = tt;
+          slice = rw (as-one-rows first later words ready, e) (sym as-one-after);
+          cells_are = rw (as-one-rows first later words ready) c;
+        };
         meters = meters;
       }
 
@@ -105,32 +112,27 @@ module _ (first later : ℕ) (words : List ℕ) (ready : PartsReady first later 
       record { within-capacity = rw (capacity-same (written rows words) words l) ready.within-capacity; rows = rw (first_rows, later_rows_lem) apart }
 
 -- storing that leaves in the first part what it leaves in the whole
-module _ (m first later : ℕ) (words : List ℕ) (ready : PartsReady first later words) (store : List Row → Storing)
-    (x : InFirst (store (whole first later words)) (store (rows_of first words)) (rows_of first words) (later_rows first later words))
-    (not-later : is_known m (later_rows first later words) ≡ false) where
-  abbrev B : List Row
-  B = later_rows first later words
-
+module _ (first later : ℕ) (words : List ℕ) (ready : PartsReady first later words) (store : List Row → Storing) (shapes : List ℕ) (cells : List ℤ)
+    (x : KeptInFirst (kept_storing shapes cells (whole first later words) (store (whole first later words))) (kept_storing shapes cells (rows_of first words) (store (rows_of first words))) (rows_of first words) (later_rows first later words)) where
   abbrev rows : List Row
-  rows = (store (rows_of first words)).rows
+  rows = (kept_storing shapes cells (rows_of first words) (store (rows_of first words))).rows
 
   count : length rows ≡ first
-  count = x.as_many ∙ length-rows first words
+  count = x.leaves.as_many ∙ length-rows first words
 
-  written-there : (outcome : Result Stored Refusal) → number_given outcome ≡ (store (rows_of first words)).number → IfOk outcome (ToldOf m (whole first later words) (store (whole first later words)).rows)
-      → first + later ≡ meters_after (first + later) (counted (first + later) outcome) → LeavesApart m store first later words later outcome (written rows words)
-  written-there outcome n =
-      leaves-apart m first later words ready store later (written rows words) (omega arith)
+  pub first-stored : {outcome : Result ℕ Refusal} {words_after : List ℕ} {cells_after : List ℤ} → Stores store shapes first words cells outcome words_after cells_after
+      → LeavesApart store shapes first later words cells later outcome words_after cells_after
+  first-stored {outcome} s =
+      rw s.slice
+      (leaves-apart first later words ready store shapes cells later (written rows words) (omega arith)
       (first_tail first later words ready rows count (3 * (first + later)) (omega arith))
       outcome
-      (first-ready first later words ready rows count x.parts)
-      (n ∙ sym x.number)
-      (x.rows ∙ rw (first_rows first later words ready rows count, later_rows_lem first later words ready rows count))
-
-  pub first-stored : {outcome : Result Stored Refusal} {words_after : List ℕ} → Stores m store first words outcome words_after → LeavesApart m store first later words later outcome words_after
-  first-stored {outcome = Err refusal} s = rw s.slice (written-there (Err refusal) s.number tt refl)
-  first-stored {outcome = Ok stored} s =
-      rw s.slice
-      (written-there (Ok stored) s.number
-      (s.told.before ∙ sym (held-merged-first m (rows_of first words) B not-later), s.told.after ∙ sym (ap (held_in m) x.rows ∙ held-merged-first m rows B not-later))
-      refl)
+      (first-ready first later words ready rows count x.leaves.parts)
+      (s.number ∙ sym x.leaves.number)
+      (x.leaves.rows ∙ rw (first_rows first later words ready rows count, later_rows_lem first later words ready rows count))
+      (s.cells_are ∙ sym x.cells)
+      (as-before outcome))
+    where
+      as-before : (outcome : Result ℕ Refusal) → first + later ≡ meters_after (first + later) (counted (first + later) outcome)
+      as-before (Ok n) = refl
+      as-before (Err refusal) = refl

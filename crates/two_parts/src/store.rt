@@ -1,33 +1,21 @@
-// Registrations and readings stored in rows in two parts.
-ghost use Rattle.std.specs.Prelude.{◌≡◌, ◌+◌, ◌<◌, ◌⊎◌};
-ghost use Rattle.book.specs.Rows.{capacity, rows_of};
+// Registrations and readings stored in rows in two parts, with the running cells kept up.
+ghost use Rattle.std.specs.Prelude.{◌≡◌, ◌+◌, ◌<◌, ◌⊎◌, map};
+ghost use Rattle.book.specs.Rows.{capacity, first_row, rows_of};
 ghost use Rattle.book.specs.Helpers.{place_in, registration_storing, reading_storing};
-ghost use Rattle.calls.specs.Helpers.{meters_after};
+ghost use Rattle.running.specs.Lent.{lent_slice, lent_cells};
+ghost use Rattle.running.specs.Helpers.{ShapesFormed};
+ghost use Rattle.calls.specs.Helpers.{InAnyOrder};
 ghost use Rattle.two_parts.specs.TwoParts.{later_rows};
-ghost use Rattle.two_parts.specs.Apart.{counted, meters_of, StoresApart};
+ghost use Rattle.two_parts.specs.Apart.{rows_together, meters_of, StoresApart};
 ghost use Rattle.two_parts.specs.ByParts.{GoesByParts};
 
 use crate::merge::merge_rows;
 use crate::{LATER_MAX, Parts};
-use book::Stored;
-use book::rows::{find, find_near, row_capacity};
-use book::store::{Entry, RegistrationWord, registration_asked};
+use book::rows::{find, find_near, first_rows, row_capacity};
+use calls::store::{Entry, RegistrationWord, registration_asked};
 use refusals::Refusal;
+use running::RunningCells;
 use words::{Reading, Registration};
-
-// What storing in one part tells, with the meters of both parts.
-fn counted(outcome: Result<Stored, Refusal>, meters: usize) -> Result<Stored, Refusal>
-    ensures { result ≡ counted meters outcome }
-{
-    outcome.map(|stored| Stored { meters, ..stored })
-}
-
-// How many rows a part has after storing in it, where it had so many before.
-fn rows_after(rows: usize, outcome: &Result<Stored, Refusal>) -> usize
-    ensures { result ≡ meters_after rows outcome.now }
-{
-    outcome.map_or(rows, |stored| stored.meters)
-}
 
 impl Parts<'_> {
     // How many meters have a row in either part.
@@ -62,60 +50,89 @@ impl Parts<'_> {
         row_capacity(self.rows)
     }
 
-    // Stores what is to stand under an MPAN. A meter of the first part keeps its place, and any other is the second part's. That part is
-    // lent up to the book's capacity, so it is full exactly when the book is. Where it has its most rows, the parts are merged. Nothing is
-    // said of the row to try first the next time, since any is right. That storing goes by parts is asked here and is no law of `Entry`:
-    // of a word it holds only under an MPAN that was tested with it.
+    // Stores what is to stand under an MPAN, and gives the number of meters then. A meter of the first part keeps its place, and any other is
+    // the second part's. That part is lent up to the book's capacity, so it is full exactly when the book is. Where it has its most rows, the
+    // parts are merged. Nothing is said of the row to try first the next time, since any is right. That storing goes by parts is asked here
+    // and is no law of `Entry`: of a word it holds only under an MPAN that was tested with it.
     #[tactic(auto, using(crate::proofs::AsOne::ends, crate::proofs::LaterStored::lent))]
-    fn store<E: Entry>(&mut self, mpan: u64, entry: E) -> Result<Stored, Refusal>
-        requires { GoesByParts mpan (E.storing entry mpan) }
+    fn store<E: Entry>(
+        &mut self,
+        mpan: u64,
+        entry: E,
+        shapes: &[u32; 64],
+        cells: &mut RunningCells<'_>,
+    ) -> Result<usize, Refusal>
+        requires by_parts { GoesByParts mpan (E.storing entry mpan) }
+        requires shapes { ShapesFormed shapes.now }
         ensures border { (self.new.first ≡ self.old.first) ⊎ ((self.new.later ≡ 0) × (meters_of self.old < meters_of self.new)) }
-        ensures stored { StoresApart mpan (E.storing entry mpan (capacity self.old.rows.now)) self.old self.new result }
+        ensures same_slice { lent_slice cells.new ≡ lent_slice cells.old }
+        ensures stored { StoresApart (E.storing entry mpan (capacity self.old.rows.now)) shapes.now self.old (lent_cells cells.old) self.new result (lent_cells cells.new) }
     {
         let first = self.first;
         let place = self.find_first(mpan);
         if let Ok(index) = place {
             self.near = index + 1;
             let meters = self.meters();
-            let outcome = entry.store(first, place, self.rows, mpan);
-            return counted(outcome, meters);
+            entry.store(first, place, self.rows, mpan, shapes, cells)?;
+            return Ok(meters);
         }
         let place = self.find_later(mpan);
         let start = 3 * first;
         let end = 3 * self.capacity();
         let rows = &mut *self.rows;
         let part = &mut rows[start..end];
-        let outcome = entry.store(self.later, place, part, mpan);
-        let later = rows_after(self.later, &outcome);
+        let later = entry.store(self.later, place, part, mpan, shapes, cells)?;
         let meters = first + later;
         if later < LATER_MAX {
             self.later = later;
-            return counted(outcome, meters);
+            return Ok(meters);
         }
         // Kept: the lines of `merge` stand here, since it takes parts whose second has fewer rows than this one has now.
         merge_rows(rows, first, later);
         self.first = meters;
         self.later = 0;
-        counted(outcome, meters)
+        Ok(meters)
     }
 
     // Stores or replaces a meter's registration.
     // Kept: this and `record` are a line or two over `store`, as those of rows in order are over theirs, and promise `border` besides.
-    #[tactic(auto, using(crate::proofs::Registered::registered))]
-    pub fn register(&mut self, mpan: u64, registration: Registration) -> Result<Stored, Refusal>
+    pub fn register(
+        &mut self,
+        mpan: u64,
+        registration: Registration,
+        shapes: &[u32; 64],
+        cells: &mut RunningCells<'_>,
+    ) -> Result<usize, Refusal>
+        requires { ShapesFormed shapes.now }
         ensures border { (self.new.first ≡ self.old.first) ⊎ (self.new.later ≡ 0) }
-        ensures stored { StoresApart mpan (registration_storing (capacity self.old.rows.now) mpan registration) self.old self.new result }
+        ensures same_slice { lent_slice cells.new ≡ lent_slice cells.old }
+        ensures stored { StoresApart (registration_storing (capacity self.old.rows.now) mpan registration) shapes.now self.old (lent_cells cells.old) self.new result (lent_cells cells.new) }
     {
         let word = registration_asked(mpan, registration)?;
-        self.store(mpan, RegistrationWord { word })
+        self.store(mpan, RegistrationWord { word }, shapes, cells)
     }
 
     // Stores a meter's reading if its issue is above the one held.
-    #[tactic(auto, using(crate::proofs::Recorded::recorded))]
-    pub fn record(&mut self, mpan: u64, reading: Reading) -> Result<Stored, Refusal>
+    pub fn record(
+        &mut self,
+        mpan: u64,
+        reading: Reading,
+        shapes: &[u32; 64],
+        cells: &mut RunningCells<'_>,
+    ) -> Result<usize, Refusal>
+        requires { ShapesFormed shapes.now }
         ensures border { self.new.first ≡ self.old.first }
-        ensures stored { StoresApart mpan (reading_storing mpan reading) self.old self.new result }
+        ensures same_slice { lent_slice cells.new ≡ lent_slice cells.old }
+        ensures stored { StoresApart (reading_storing mpan reading) shapes.now self.old (lent_cells cells.old) self.new result (lent_cells cells.new) }
     {
-        self.store(mpan, reading)
+        self.store(mpan, reading, shapes, cells)
+    }
+
+    // The rows of both parts, which stand one after the other.
+    #[tactic(auto, using(crate::proofs::AsOne::ends))]
+    pub fn all(&self) -> &[[u64; 3]]
+        ensures { InAnyOrder (rows_of (meters_of self.now) (rows_together self.now)) (map first_row result.now) }
+    {
+        first_rows(self.rows, self.meters())
     }
 }

@@ -12,7 +12,7 @@ use Rattle.integers.specs.Helpers.{weighted_most}
 use Rattle.integers.specs.Sum.{sum}
 use Rattle.integers.proofs.Linear.{sized}
 use Rattle.correction.specs.Correction.{net_in, weighted_in, unallocated_of, weighted_total}
-use Rattle.correction.proofs.Sizes.{size-sum}
+use Rattle.integers.proofs.Sizes.{size-sum}
 use Rattle.correction.proofs.ChainSums.{mapped-fits, mapped-sum}
 use Rattle.correction.proofs.Corrected.of.Goals as goal
 use Rattle.correction.proofs.Corrected.of.Goals.{After-sum-weighted}

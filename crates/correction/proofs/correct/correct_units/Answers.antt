@@ -10,14 +10,13 @@ use mir.Val.{SFits, to_z, of_z}
 use mir.ValLaws.{to_z-of_z}
 use Rattle.std.specs.Slice.Iter.{iter_rest}
 use Rattle.std.proofs.lemmas.Result.{err_from_is_err_and}
-use Rattle.integers.specs.Sum.{sum}
+use Rattle.integers.specs.Sum.{sum, sizes}
 use Rattle.cells.specs.Cells.{units}
 use Rattle.correction.specs.declared.UnitSums.{UnitSums}
 use Rattle.correction.specs.declared.Corrected.{Corrected}
 use Rattle.correction.specs.Correction.{sums_cause}
 use Rattle.correction.specs.Volumes.{lacking_wh, rounded_volumes, with_volumes}
 use Rattle.correction.specs.Outcome.{corrected_of}
-use Rattle.correction.specs.Helpers.{sizes}
 use Rattle.correction.proofs.ChainSums.{over-fits, over-sum}
 use Rattle.correction.proofs.Apportion.{SharedBy, share-arguments, floors-sizes, lack-is, lack-few, hand-arguments, volumes-given}
 use Rattle.correction.proofs.Outcome.{way-refused, way-accepted}

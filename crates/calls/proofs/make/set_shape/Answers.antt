@@ -1,0 +1,28 @@
+-- `set_shape` gives the outcome of the call. Assumes nothing.
+use borrow.Author.Rules.{rules}
+use Rattle.std.proofs.lemmas.Result.{err_from_is_err_and}
+use Rattle.calls.proofs.Tested.{tested-refused, tested-ready, tested-within, tested-rows, tested-settings, tested-set}
+use Rattle.calls.proofs.make.set_shape.Goals as goal
+
+pub returns-in_err-size : goal.returns-in_err-size
+returns-in_err-size c =
+    let p = err_from_is_err_and c.from_residual.result c.from_residual.ensures.1 in
+    rw (p.1, p.2) (tested-refused _ _ _ _ _ c.in_err-size.ensures)
+
+pub new-kept-requires : goal.new-kept-requires
+new-kept-requires c = tested-ready _ _ _ _ c.in_ok-size.ensures
+
+pub first_rows-meters-requires : goal.first_rows-meters-requires
+first_rows-meters-requires c = tested-within _ _ _ _ c.in_ok-size.ensures
+
+pub set_kept-requires-clause-rows : goal.set_kept-requires-clause-rows
+set_kept-requires-clause-rows c = tested-rows _ _ _ _ c.in_ok-size.ensures c.first_rows-meters.ensures.rows
+
+pub set_kept-requires-clause-settings : goal.set_kept-requires-clause-settings
+set_kept-requires-clause-settings c = tested-settings _ _ _ _ c.in_ok-size.ensures
+
+pub returns : goal.returns
+returns c =
+    let kept = rw c.new-kept.ensures.cells at c.set_kept.ensures.gives in
+    let t = tested-set c.args.settings c.args.rows.now c.args.cells.now _ c.in_ok-size.ensures c.first_rows-meters.ensures.rows _ c.set_kept.result kept in
+    search (rules, t)

@@ -1,0 +1,26 @@
+-- Laws of the slice of running cells.
+pub mod Changed
+pub mod SumIn
+pub mod CellsFor
+pub mod Charges
+pub mod SumBounds
+pub mod KeptCells
+pub mod ChangedCells
+pub mod CellWords
+pub mod WithinLimits
+pub mod TestedFirst
+pub mod Near
+pub mod HeldFormed
+pub mod Amounts
+pub mod Entries
+pub mod Exchanges
+pub mod SizeAfter
+pub mod ShapeChange
+pub mod WhMore
+pub mod WaitingAdded
+pub mod ChangeAdded
+pub mod WaitingGathered
+pub mod ChangeKept
+pub mod FirstWaiting
+pub mod KeptUp
+pub mod ShapeKept
