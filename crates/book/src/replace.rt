@@ -1,21 +1,19 @@
 // A setting replaced in settings that were tested before.
-ghost use Rattle.std.specs.Prelude.{◌≡◌};
+ghost use Rattle.std.specs.Prelude.{◌≡◌, true};
+ghost use Rattle.book.specs.Settings.{with_setting, setting_in_range};
 ghost use Rattle.book.specs.Helpers.{setting_replaced};
 
 use crate::ranges::setting_in_range;
 use crate::{Setting, Settings};
 use refusals::Refusal;
 
-// Replaces a setting if its number and its value are in range. SHAPE_MISSING sets a shape back to missing. All four are replaced in one
-// copy of the settings: a function of its own for that would hand them back in another.
-#[tactic(auto, unfolding(crate::specs::Helpers::setting_replaced, crate::specs::Settings::with_setting))]
-pub fn replace(settings: Settings, setting: Setting) -> Result<Settings, Refusal>
-    ensures { result ≡ setting_replaced setting settings }
+// Puts a setting in the place of the one held, where the settings stand: a list of calls replaces many, and to copy all of them for each
+// took longer than the rest of such a call.
+#[tactic(auto, unfolding(crate::specs::Settings::with_setting))]
+pub fn put_setting(made: &mut Settings, setting: Setting)
+    requires { setting_in_range setting ≡ true }
+    ensures { made.new ≡ with_setting setting made.old }
 {
-    if !setting_in_range(setting) {
-        return Err(Refusal::ArgumentOutOfRange);
-    }
-    let mut made = settings;
     // Kept: `as`, since there is no `From` of a u64 for an index or a u32, and both were tested to be in range: a `try_from` would ask for a
     // refusal that never comes.
     match setting {
@@ -33,5 +31,17 @@ pub fn replace(settings: Settings, setting: Setting) -> Result<Settings, Refusal
             made.take_set = Settings::TAKE_FLAG_SET;
         }
     }
+}
+
+// Replaces a setting if its number and its value are in range. SHAPE_MISSING sets a shape back to missing.
+#[tactic(auto, unfolding(crate::specs::Helpers::setting_replaced))]
+pub fn replace(settings: Settings, setting: Setting) -> Result<Settings, Refusal>
+    ensures { result ≡ setting_replaced setting settings }
+{
+    if !setting_in_range(setting) {
+        return Err(Refusal::ArgumentOutOfRange);
+    }
+    let mut made = settings;
+    put_setting(&mut made, setting);
     Ok(made)
 }

@@ -16,11 +16,12 @@ use Rattle.words.specs.Registration.{registration_word}
 use Rattle.words.specs.Reading.{reading_word}
 use Rattle.book.specs.declared.Settings.{Settings}
 use Rattle.book.specs.declared.Setting.{Setting}
+use Rattle.book.specs.declared.Answer.{Answer}
 use Rattle.book.specs.Settings.{with_meters, with_setting, setting_cause, settings_formed}
 use Rattle.book.specs.Rows.{Row, capacity, rows_of, with_registration, with_reading, written}
 use Rattle.book.specs.Book.{lent, used_rows, well_formed, with_rows}
 use Rattle.book.specs.Store.{registration_cause, reading_cause}
-use Rattle.book.specs.Helpers.{RowsReady, Storing, storing, registration_storing, reading_storing, answer_of}
+use Rattle.book.specs.Helpers.{RowsReady, Storing, storing, registration_storing, reading_storing}
 use Rattle.book.proofs.BookFormed.{count_kept}
 use Rattle.book.proofs.WellFormed.{room, rows-ready, formed-book}
 use Rattle.book.proofs.Written.{written_same, rows-of-written}
@@ -34,7 +35,7 @@ use Rattle.calls.specs.declared.Call.TheVariants.{Register, Record, Set}
 use Rattle.calls.specs.Calls.{cause_after_test, book_made}
 use Rattle.calls.specs.Running.{running_made, running_cause, running_outcome, running_call, RunningGives}
 use Rattle.calls.specs.Stores.{storing_kept, kept_storing, Stores}
-use Rattle.calls.specs.Helpers.{answer_counted, LentRows, Registers, Records, InAnyOrder, setting_change, SetKept}
+use Rattle.calls.specs.Helpers.{answer_counted, LentRows, Registers, Records, InAnyOrder, setting_change, set_by, SetKept}
 use Rattle.calls.proofs.ListOfCalls.{call-refused}
 use Rattle.calls.proofs.SettingKept.{shapes-formed}
 
@@ -124,14 +125,12 @@ module _ {s : Settings} {rows : LentRows} {cells : List ℤ} {size : ℕ} (l : L
 
 -- a setting replaced, by the number given
 module _ {s : Settings} {words : List ℕ} {cells : List ℤ} {size : ℕ} (l : LentWell (running_of s words cells) size) (x : Setting) where
-  set-by : (n : ℕ) (change : ℕ → ℤ) (outcome : Result Settings Refusal) {cells_after : List ℤ} → number_given outcome ≡ n → IfOk outcome (λ (made : Settings). made ≡ with_setting x s)
+  set-by : (n : ℕ) (change : ℕ → ℤ) {a : Answer} {cells_after : List ℤ} → a.number ≡ n → a.settings ≡ set_by n x s
       → cells_after ≡ kept_by n change cells
-      → RunningGives (running_outcome n (record { book = record { settings = with_setting x s; rows = words }; cells = with_change change cells }) (running_of s words cells)) (answer_of s outcome) words cells_after
-  unfolding kept_by running_outcome
-  set-by zero change (Ok made) number settings kept = record { number = refl; settings = settings; rows = refl; cells = kept }
-  set-by zero change (Err refusal) number settings kept = absurd (not-accepted refusal number)
-  set-by (suc n) change (Ok made) number settings kept = absurd (omega arith)
-  set-by (suc n) change (Err refusal) number settings kept = record { number = number; settings = refl; rows = refl; cells = kept }
+      → RunningGives (running_outcome n (record { book = record { settings = with_setting x s; rows = words }; cells = with_change change cells }) (running_of s words cells)) a words cells_after
+  unfolding kept_by running_outcome set_by
+  set-by zero change number settings kept = record { number = number; settings = settings; rows = refl; cells = kept }
+  set-by (suc n) change number settings kept = record { number = number; settings = settings; rows = refl; cells = kept }
 
   -- the change of the cells is the same, in whatever order the rows were looked at
   set-change : {listed : List Row} → InAnyOrder (rows_of s.meters words) listed → (running_made (running_of s words cells) (Set x)).cells ≡ with_change (setting_change s listed x) cells
@@ -140,15 +139,20 @@ module _ {s : Settings} {words : List ℕ} {cells : List ℤ} {size : ℕ} (l : 
       changed-same _ cells (setting_change s listed x)
       (λ k h. rw (count_kept x s, same.same_sums (word_in (with_setting x s).shapes k), same.same_sums (word_in s.shapes k)) refl)
 
-  pub gives-set : {listed : List Row} {outcome : Result Settings Refusal} {cells_after : List ℤ} → InAnyOrder (rows_of s.meters words) listed → SetKept s listed cells x outcome cells_after
-      → RunningGives (running_call (running_of s words cells) (Set x)) (answer_of s outcome) words cells_after
+  pub gives-set : {listed : List Row} {a : Answer} {cells_after : List ℤ} → InAnyOrder (rows_of s.meters words) listed → SetKept s listed cells x a cells_after
+      → RunningGives (running_call (running_of s words cells) (Set x)) a words cells_after
   unfolding cause_after_test book_made
-  gives-set {listed} {outcome} same kept =
+  gives-set {listed} same kept =
       rw (call-left l (Set x), set-change same)
-      (set-by (limit_cause (setting_cause x) (within_limits (with_change (setting_change s listed x) cells))) (setting_change s listed x) outcome kept.number kept.settings (rw (← kept.number) kept.cells_are))
+      (set-by (limit_cause (setting_cause x) (within_limits (with_change (setting_change s listed x) cells))) (setting_change s listed x) kept.number (rw (← kept.number) kept.settings) (rw (← kept.number) kept.cells_are))
 
-  pub set-count : {listed : List Row} {made : Settings} {cells_after : List ℤ} → SetKept s listed cells x (Ok made) cells_after → made.meters ≡ s.meters
-  set-count kept = rw kept.settings (count_kept x s)
+  count-by : (n : ℕ) → (set_by n x s).meters ≡ s.meters
+  unfolding set_by
+  count-by zero = count_kept x s
+  count-by (suc n) = refl
+
+  pub set-count : {listed : List Row} {a : Answer} {cells_after : List ℤ} → SetKept s listed cells x a cells_after → a.settings.meters ≡ s.meters
+  set-count {listed} {a} kept = rw kept.settings (count-by a.number)
 
 -- for the search for a proof
 pub ruleset made = (ready-in, settings-in, shapes-formed)

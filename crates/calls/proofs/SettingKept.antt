@@ -1,7 +1,7 @@
 -- What replacing a setting leaves of the settings and of the cells: out of range; a setting that no cell depends on; and a shape, with which the cells are kept up.
-use Prim.Native.Nat.{ℕ, ◌<◌}
+use Prim.Native.Nat.{ℕ, zero, suc, ◌<◌}
 use mathlib.Core.Path.{◌≡◌, refl, sym, ap, ◌∙◌}
-use mathlib.Core.Bool.{true, true≢false, and-eq-true_iff}
+use mathlib.Core.Bool.{true, false, true≢false, and-eq-true_iff}
 use mathlib.Core.List.{List}
 use borrow.Author.Tests.{ltb-true}
 use lib.Dec.{ltb}
@@ -11,49 +11,35 @@ use Rattle.std.specs.Prelude.{Result, Ok, Err}
 use Rattle.refusals.specs.declared.Refusal.{Refusal}
 use Rattle.refusals.specs.declared.Refusal.TheVariants.{ArgumentOutOfRange}
 use Rattle.refusals.specs.Causes.{accepted}
-use Rattle.refusals.specs.Refusal.{number_given}
+use Rattle.refusals.specs.Refusal.{number_of, number_given}
+use Rattle.refusals.proofs.Numbers.{not-accepted}
 use Rattle.integers.proofs.Linear.{linear, minus}
-use Rattle.words.proofs.Tests.{by-test}
 use Rattle.book.specs.declared.Settings.{Settings}
 use Rattle.book.specs.declared.Setting.{Setting}
 use Rattle.book.specs.declared.Setting.TheVariants.{Shape, Weight, Tolerance, GroupTake}
 use Rattle.book.specs.Limits.{categories}
 use Rattle.book.specs.Settings.{is_shape, with_setting, setting_in_range, setting_cause, settings_formed}
 use Rattle.book.specs.Rows.{Row}
-use Rattle.book.specs.Helpers.{setting_replaced}
 use Rattle.book.proofs.WellFormed.{formed-settings}
 use Rattle.running.specs.Words.{sum_in}
 use Rattle.running.specs.Running.{with_change, within_limits, limit_cause}
 use Rattle.running.specs.Helpers.{ShapesFormed, kept_by, KeepsUp, shape_change}
 use Rattle.running.proofs.Changed.{changed-nothing}
-use Rattle.calls.specs.Helpers.{keeps_cells, setting_change, SetKept}
+use Rattle.calls.specs.Helpers.{keeps_cells, setting_change, set_by, SetKept}
 
 -- shapes of well-formed settings, as cells are kept up with
 pub shapes-formed : (s : Settings) → length s.shapes ≡ categories → settings_formed s ≡ true → ShapesFormed s.shapes
 shapes-formed s long formed = record { long = long; formed = (formed-settings s formed).shapes-formed }
 
 module _ (x : Setting) (s : Settings) where
-  -- what was replaced is in range, and what was not is refused for it
-  replaced-range : {made : Settings} → Ok made ≡ setting_replaced x s → setting_in_range x ≡ true
-  unfolding setting_replaced
-  replaced-range e = by-test (setting_in_range x) (λ t. t) (λ t. absurd (cc (rw t at e)))
-
-  replaced-is : {made : Settings} → Ok made ≡ setting_replaced x s → made ≡ with_setting x s
-  unfolding setting_replaced
-  replaced-is {made} e = by-test (setting_in_range x) (λ t. let h : ◌≡◌ {A = Result Settings Refusal} (Ok made) (Ok (with_setting x s)) = rw t at e in cc) (λ t. absurd (cc (rw t at e)))
-
-  replaced-cause : {made : Settings} → Ok made ≡ setting_replaced x s → setting_cause x ≡ accepted
+  -- a setting is in range, or is refused for it
+  range-cause : setting_in_range x ≡ true → setting_cause x ≡ accepted
   unfolding setting_cause
-  replaced-cause e = rw (replaced-range e) refl
+  range-cause e = rw e refl
 
-  pub not-replaced : (meters : List Row) (cells : List ℤ) {refusal : Refusal} → Err refusal ≡ setting_replaced x s → SetKept s meters cells x (Err refusal) cells
-  unfolding setting_replaced setting_cause limit_cause kept_by
-  not-replaced meters cells {refusal} e =
-      by-test (setting_in_range x)
-      (λ t. absurd (cc (rw t at e)))
-      (λ t.
-      let is : refusal ≡ ArgumentOutOfRange = cc (rw t at e) in
-      rw is (record { number = rw t refl; settings = tt; cells_are = refl }))
+  pub not-in-range : (meters : List Row) (cells : List ℤ) → setting_in_range x ≡ false → SetKept s meters cells x (record { number = number_of ArgumentOutOfRange; settings = s }) cells
+  unfolding setting_cause limit_cause kept_by set_by
+  not-in-range meters cells e = record { number = rw e refl; settings = refl; cells_are = refl }
 
   -- no cell depends on it
   module _ (meters : List Row) (keeps : keeps_cells x ≡ true) where
@@ -70,11 +56,12 @@ module _ (x : Setting) (s : Settings) where
         self-minus (Tolerance g) h = none (sum_in s.shapes meters k)
         self-minus (GroupTake wh) h = none (sum_in s.shapes meters k)
 
-    pub other-kept : {cells : List ℤ} → within_limits cells ≡ true → {made : Settings} → Ok made ≡ setting_replaced x s → SetKept s meters cells x (Ok made) cells
-    unfolding limit_cause kept_by
-    other-kept {cells} within e =
+    pub other-kept : {cells : List ℤ} → within_limits cells ≡ true → setting_in_range x ≡ true → {made : Settings} → made ≡ with_setting x s
+        → SetKept s meters cells x (record { number = accepted; settings = made }) cells
+    unfolding limit_cause kept_by set_by
+    other-kept {cells} within e is =
         let left = changed-nothing (setting_change s meters x) cells (λ k h. change-none k) in
-        record { number = rw (replaced-cause e, left, within) refl; settings = replaced-is e; cells_are = sym left }
+        record { number = rw (range-cause e, left, within) refl; settings = is; cells_are = sym left }
 
 -- a setting that is no shape is one of these
 pub no-shape : (x : Setting) → ((category wh : ℕ) → x ≡ Shape category wh → ⊥) → keeps_cells x ≡ true
@@ -84,10 +71,10 @@ no-shape (Tolerance g) h = refl
 no-shape (GroupTake wh) h = refl
 
 -- a shape
-module _ (s : Settings) {x : Setting} {made : Settings} (e : Ok made ≡ setting_replaced x s) {category wh : ℕ} (is : x ≡ Shape category wh) where
+module _ (s : Settings) {x : Setting} (e : setting_in_range x ≡ true) {category wh : ℕ} (is : x ≡ Shape category wh) where
   shape-range : (category < categories) × (is_shape wh ≡ true)
   shape-range =
-      let parts = (and-eq-true_iff (ltb category categories) (is_shape wh)).0 (sym (ap setting_in_range is) ∙ replaced-range x s e) in
+      let parts = (and-eq-true_iff (ltb category categories) (is_shape wh)).0 (sym (ap setting_in_range is) ∙ e) in
       (ltb-true category categories parts.0, parts.1)
 
   pub category-in : category < categories
@@ -100,10 +87,18 @@ module _ (s : Settings) {x : Setting} {made : Settings} (e : Ok made ≡ setting
     shape-kept : {outcome : Result Unit Refusal} → KeepsUp (shape_change s.shapes category wh meters) cells outcome cells_after
         → (number_given outcome ≡ limit_cause (setting_cause x) (within_limits (with_change (setting_change s meters x) cells))) × (cells_after ≡ kept_by (number_given outcome) (setting_change s meters x) cells)
     unfolding setting_change with_setting
-    shape-kept kept = rw (replaced-cause x s e, is) (kept.number, kept.cells_are)
+    shape-kept kept = rw (range-cause x s e, is) (kept.number, kept.cells_are)
 
-    pub shape-kept-up : {u : Unit} → KeepsUp (shape_change s.shapes category wh meters) cells (Ok u) cells_after → SetKept s meters cells x (Ok made) cells_after
-    shape-kept-up kept = let k = shape-kept kept in record { number = k.0; settings = replaced-is x s e; cells_are = k.1 }
+    pub shape-kept-up : {u : Unit} {made : Settings} → KeepsUp (shape_change s.shapes category wh meters) cells (Ok u) cells_after → made ≡ with_setting x s
+        → SetKept s meters cells x (record { number = accepted; settings = made }) cells_after
+    unfolding set_by
+    shape-kept-up kept made = let k = shape-kept kept in record { number = k.0; settings = made; cells_are = k.1 }
 
-    pub shape-passes : {refusal : Refusal} → KeepsUp (shape_change s.shapes category wh meters) cells (Err refusal) cells_after → SetKept s meters cells x (Err refusal) cells_after
-    shape-passes kept = let k = shape-kept kept in record { number = k.0; settings = tt; cells_are = k.1 }
+    pub shape-passes : {refusal : Refusal} → KeepsUp (shape_change s.shapes category wh meters) cells (Err refusal) cells_after
+        → SetKept s meters cells x (record { number = number_of refusal; settings = s }) cells_after
+    unfolding set_by
+    shape-passes {refusal} kept = let k = shape-kept kept in record { number = k.0; settings = refused-set (number_of refusal) (not-accepted refusal); cells_are = k.1 }
+      where
+        refused-set : (n : ℕ) → (n ≡ accepted → ⊥) → s ≡ set_by n x s
+        refused-set zero h = absurd (h refl)
+        refused-set (suc n) h = refl

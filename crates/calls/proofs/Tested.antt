@@ -5,15 +5,15 @@ use mathlib.Core.Bool.{true}
 use mathlib.Core.List.{List}
 use lib.IntN.{ℤ}
 use lib.ListN.{length}
-use Rattle.std.specs.Prelude.{Result, Ok, Err}
+use Rattle.std.specs.Prelude.{Ok, Err}
 use Rattle.refusals.specs.declared.Refusal.{Refusal}
-use Rattle.refusals.specs.declared.Refusal.TheVariants.{ArgumentOutOfRange}
 use Rattle.refusals.specs.Refusal.{number_of}
 use Rattle.refusals.proofs.Numbers.{not-accepted}
 use Rattle.words.proofs.Tests.{by-test}
 use Rattle.book.specs.declared.Settings.{Settings}
 use Rattle.book.specs.declared.Setting.{Setting}
-use Rattle.book.specs.Settings.{with_setting, setting_in_range, settings_formed}
+use Rattle.book.specs.declared.Answer.{Answer}
+use Rattle.book.specs.Settings.{setting_in_range, settings_formed}
 use Rattle.book.specs.Rows.{Row, rows_of}
 use Rattle.book.specs.Book.{lent, well_formed}
 use Rattle.book.specs.Helpers.{setting_replaced, answer_of}
@@ -28,7 +28,7 @@ use Rattle.calls.specs.Running.{running_made, running_outcome, running_cause, ru
 use Rattle.calls.specs.Helpers.{keeps_cells, SetKept}
 use Rattle.calls.proofs.InOrder.{rows-held, all-in-order}
 use Rattle.calls.proofs.Answers.{gives-unlent, gives-set}
-use Rattle.calls.proofs.SettingKept.{not-replaced, other-kept}
+use Rattle.calls.proofs.SettingKept.{not-in-range, other-kept}
 
 module _ (s : Settings) (words : List ℕ) (cells : List ℤ) where
   -- refused by the test
@@ -57,17 +57,17 @@ module _ (s : Settings) (words : List ℕ) (cells : List ℤ) where
       pub tested-rows : RowsHeld listed
       tested-rows = rw same (rows-held (rows-ready s words tested-formed))
 
-      pub tested-set : (x : Setting) (outcome : Result Settings Refusal) {cells_after : List ℤ} → SetKept s listed cells x outcome cells_after
-          → RunningGives (running_call (running_of s words cells) (Set x)) (answer_of s outcome) words cells_after
-      tested-set x outcome kept = gives-set tested-well x (all-in-order (rows-ready s words tested-formed) same) kept
+      pub tested-set : (x : Setting) {a : Answer} {cells_after : List ℤ} → SetKept s listed cells x a cells_after
+          → RunningGives (running_call (running_of s words cells) (Set x)) a words cells_after
+      tested-set x kept = gives-set tested-well x (all-in-order (rows-ready s words tested-formed) same) kept
 
     -- a setting that no cell depends on
     pub tested-other : (x : Setting) → keeps_cells x ≡ true → RunningGives (running_call (running_of s words cells) (Set x)) (answer_of s (setting_replaced x s)) words cells
     unfolding setting_replaced
     tested-other x keeps =
         by-test (setting_in_range x)
-        (λ t. rw t (tested-set refl x (Ok (with_setting x s)) (other-kept x s (rows_of s.meters words) keeps tested-ready.within (rw t refl))))
-        (λ t. rw t (tested-set refl x (Err ArgumentOutOfRange) (not-replaced x s (rows_of s.meters words) cells (rw t refl))))
+        (λ t. rw t (tested-set refl x (other-kept x s (rows_of s.meters words) keeps tested-ready.within t refl)))
+        (λ t. rw t (tested-set refl x (not-in-range x s (rows_of s.meters words) cells t)))
 
 -- a refused call leaves the settings
 refused-by-cause : (n : ℕ) (r made : Running) (refusal : Refusal) {s : Settings} {words : List ℕ} {cells : List ℤ}

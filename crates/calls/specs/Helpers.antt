@@ -1,5 +1,5 @@
 -- What making a call is held to: rows that are lent, what storing in them leaves, and the answer of a call that stored.
-use Rattle.std.specs.Prelude.{ℕ, ◌≡◌, true, false, Bool, Result, Ok, Err, IfOk, List, ℤ, ◌-ℤ◌}
+use Rattle.std.specs.Prelude.{ℕ, zero, suc, ◌≡◌, true, false, Bool, Result, Ok, Err, List, ℤ, ◌-ℤ◌}
 use Rattle.refusals.specs.declared.Refusal.{Refusal}
 use Rattle.refusals.specs.Refusal.{number_given}
 use Rattle.words.specs.declared.Registration.{Registration}
@@ -69,7 +69,12 @@ pub record InAnyOrder (meters listed : List Row) : Type 0 where
 unfoldable pub setting_change : Settings → List Row → Setting → ℕ → ℤ
 setting_change s meters x k = sum_in (with_setting x s).shapes meters k -ℤ sum_in s.shapes meters k
 
-pub record SetKept (s : Settings) (meters : List Row) (cells : List ℤ) (x : Setting) (outcome : Result Settings Refusal) (cells_after : List ℤ) : Type 0 where
-  pub number : number_given outcome ≡ limit_cause (setting_cause x) (within_limits (with_change (setting_change s meters x) cells))
-  pub settings : IfOk outcome (λ made. made ≡ with_setting x s)
-  pub cells_are : cells_after ≡ kept_by (number_given outcome) (setting_change s meters x) cells
+-- and the settings, by the number given
+unfoldable pub set_by : ℕ → Setting → Settings → Settings
+set_by zero x s = with_setting x s
+set_by (suc k) x s = s
+
+pub record SetKept (s : Settings) (meters : List Row) (cells : List ℤ) (x : Setting) (a : Answer) (cells_after : List ℤ) : Type 0 where
+  pub number : a.number ≡ limit_cause (setting_cause x) (within_limits (with_change (setting_change s meters x) cells))
+  pub settings : a.settings ≡ set_by a.number x s
+  pub cells_are : cells_after ≡ kept_by a.number (setting_change s meters x) cells

@@ -14,7 +14,8 @@ ghost use Rattle.calls.specs.Helpers.{answer_with, keeps_cells, SetKept};
 
 use crate::Call;
 use crate::rows::{InOrder, Rows};
-use book::replace::replace;
+use book::ranges::setting_in_range;
+use book::replace::{put_setting, replace};
 use book::rows::first_rows;
 use book::{Setting, Settings};
 use refusals::Refusal;
@@ -45,31 +46,34 @@ pub fn make<R: Rows>(
             made.meters = rows.record(mpan, reading, &made.shapes, cells)?;
         }
         Call::Set(setting) => {
-            *made = set_kept(*made, rows.all(), cells, setting)?;
+            set_kept(made, rows.all(), cells, setting)?;
         }
     }
     Ok(())
 }
 
-// Replaces a setting of a book that was tested before. A shape changes the cells of the meters that wait in its category; no other
-// setting changes a cell. It is built into its callers: else the settings would be copied to it and back for each setting of a list.
+// Replaces a setting of a book that was tested before, where the settings stand. A shape changes the cells of the meters that wait in its
+// category; no other setting changes a cell. It is built into its callers, since a list makes it for each of its settings.
 #[inline(always)]
 fn set_kept(
-    settings: Settings,
+    made: &mut Settings,
     rows: &[[u64; 3]],
     cells: &mut RunningCells<'_>,
     setting: Setting,
-) -> Result<Settings, Refusal>
+) -> Result<(), Refusal>
     requires rows { RowsHeld (map first_row rows.now) }
-    requires settings { settings_formed settings ≡ true }
+    requires settings { settings_formed made.old ≡ true }
     ensures same_slice { lent_slice cells.new ≡ lent_slice cells.old }
-    ensures gives { SetKept settings (map first_row rows.now) (lent_cells cells.old) setting result (lent_cells cells.new) }
+    ensures gives { SetKept made.old (map first_row rows.now) (lent_cells cells.old) setting (answer_with result made.new) (lent_cells cells.new) }
 {
-    let made = replace(settings, setting)?;
-    if let Setting::Shape { category, wh } = setting {
-        cells.keep_shape(&settings.shapes, rows, category, wh)?;
+    if !setting_in_range(setting) {
+        return Err(Refusal::ArgumentOutOfRange);
     }
-    Ok(made)
+    if let Setting::Shape { category, wh } = setting {
+        cells.keep_shape(&made.shapes, rows, category, wh)?;
+    }
+    put_setting(made, setting);
+    Ok(())
 }
 
 // Makes a call, and gives the settings afterwards. A registration is stored or replaced: a new meter gets its row in order and has no
@@ -104,7 +108,14 @@ pub fn set_shape(
     let size = test_lent(settings, rows, cells)?;
     let mut kept = RunningCells::new(cells, size);
     let meters = first_rows(rows, settings.meters);
-    set_kept(settings, meters, &mut kept, Setting::Shape { category, wh })
+    let mut made = settings;
+    set_kept(
+        &mut made,
+        meters,
+        &mut kept,
+        Setting::Shape { category, wh },
+    )?;
+    Ok(made)
 }
 
 // Makes a call that replaces another setting, on rows and cells that are lent to be read only.

@@ -27,17 +27,21 @@ returns-in_ok-made-in-Record-clause-gives g c =
     rw c.in-Record.is
     (gives-recorded (ready-well _ c.requires.formed c.args.cells.now.ready) c.requires.counted _ _ c.in_ok-made-in-Record.ensures.records)
 
-pub returns-in_err-made-in-Set-clause-gives : goal.returns-in_err-made-in-Set-clause-gives
-returns-in_err-made-in-Set-clause-gives g c =
-    let p = err_from_is_err_and c.from_residual-in_err-made-in-Set.result c.from_residual-in_err-made-in-Set.ensures.1 in
+pub returns-in_err-set_kept-in-Set-clause-counted : goal.returns-in_err-set_kept-in-Set-clause-counted
+returns-in_err-set_kept-in-Set-clause-counted g c =
+    set-count (ready-well _ c.requires.formed c.args.cells.now.ready) _ c.in_err-set_kept-in-Set.ensures.gives ∙ c.requires.counted
+
+pub returns-in_err-set_kept-in-Set-clause-gives : goal.returns-in_err-set_kept-in-Set-clause-gives
+returns-in_err-set_kept-in-Set-clause-gives g c =
+    let p = err_from_is_err_and c.from_residual-in_err-set_kept-in-Set.result c.from_residual-in_err-set_kept-in-Set.ensures.1 in
     rw (p.1, p.2, c.in-Set.is)
-    (gives-set (ready-well _ c.requires.formed c.args.cells.now.ready) _ (rw c.requires.counted c.all.ensures) c.in_err-made-in-Set.ensures.gives)
+    (gives-set (ready-well _ c.requires.formed c.args.cells.now.ready) _ (rw c.requires.counted c.all.ensures) c.in_err-set_kept-in-Set.ensures.gives)
 
-pub returns-in_ok-made-in-Set-clause-counted : goal.returns-in_ok-made-in-Set-clause-counted
-returns-in_ok-made-in-Set-clause-counted g c =
-    set-count (ready-well _ c.requires.formed c.args.cells.now.ready) _ c.in_ok-made-in-Set.ensures.gives ∙ c.requires.counted
+pub returns-in_ok-set_kept-in-Set-clause-counted : goal.returns-in_ok-set_kept-in-Set-clause-counted
+returns-in_ok-set_kept-in-Set-clause-counted g c =
+    set-count (ready-well _ c.requires.formed c.args.cells.now.ready) _ c.in_ok-set_kept-in-Set.ensures.gives ∙ c.requires.counted
 
-pub returns-in_ok-made-in-Set-clause-gives : goal.returns-in_ok-made-in-Set-clause-gives
-returns-in_ok-made-in-Set-clause-gives g c =
+pub returns-in_ok-set_kept-in-Set-clause-gives : goal.returns-in_ok-set_kept-in-Set-clause-gives
+returns-in_ok-set_kept-in-Set-clause-gives g c =
     rw c.in-Set.is
-    (gives-set (ready-well _ c.requires.formed c.args.cells.now.ready) _ (rw c.requires.counted c.all.ensures) c.in_ok-made-in-Set.ensures.gives)
+    (gives-set (ready-well _ c.requires.formed c.args.cells.now.ready) _ (rw c.requires.counted c.all.ensures) c.in_ok-set_kept-in-Set.ensures.gives)
