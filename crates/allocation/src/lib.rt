@@ -2,6 +2,7 @@
 #![tactic(auto)]
 
 ghost use Rattle.std.specs.Prelude.{◌≡◌};
+ghost use Rattle.allocation.specs.Allocate.{refused_with};
 ghost use Rattle.allocation.specs.Helpers.{allocated_of, allocation_answer};
 
 use book::Settings;
@@ -35,6 +36,23 @@ pub struct Allocated {
     pub droppings: [i64; 32],
 }
 
+// A refusal's number, with U, W, the counts and the droppings at 0.
+// Kept: a number and no `Refusal`, since it stands beside any number, and a narrower type would ask more of its callers.
+pub fn refused(number: u64) -> Allocated
+    ensures { result ≡ refused_with number }
+{
+    Allocated {
+        number,
+        unallocated: 0,
+        weighted: 0,
+        actual: 0,
+        estimated: 0,
+        defaulted: 0,
+        idle: 0,
+        droppings: [0; 32],
+    }
+}
+
 impl From<Result<Figures, Refusal>> for Allocated {
     ghost from_gives = { λ outcome answer. answer ≡ allocated_of outcome };
 
@@ -53,16 +71,7 @@ impl From<Result<Figures, Refusal>> for Allocated {
                     droppings,
                 }
             }
-            Err(refusal) => Allocated {
-                number: u64::from(refusal),
-                unallocated: 0,
-                weighted: 0,
-                actual: 0,
-                estimated: 0,
-                defaulted: 0,
-                idle: 0,
-                droppings: [0; 32],
-            },
+            Err(refusal) => refused(u64::from(refusal)),
         }
     }
 }

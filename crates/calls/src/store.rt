@@ -10,6 +10,7 @@ ghost use Rattle.running.specs.Helpers.{ShapesFormed};
 ghost use Rattle.calls.specs.Stores.{Stores};
 
 use book::Held;
+use book::ranges::{reading_in_range, register_in_range};
 use book::rows::{insert_row, row_capacity};
 use refusals::Refusal;
 use running::RunningCells;
@@ -21,7 +22,7 @@ use words::{Reading, Registration};
 pub fn registration_asked(mpan: u64, registration: Registration) -> Result<u64, Refusal>
     ensures { result ≡ asked_of mpan registration }
 {
-    if !(words::is_mpan(mpan) & registration.in_range()) {
+    if !register_in_range(mpan, registration) {
         return Err(Refusal::ArgumentOutOfRange);
     }
     Ok(registration.pack())
@@ -64,7 +65,7 @@ pub trait Entry {
 }
 
 // The word of a registration that was tested, as `registration_asked` gives it.
-#[derive(Drop)]
+#[derive(Clone, Copy)]
 pub struct RegistrationWord {
     pub word: u64,
     pub ghost formed: { is_registration word ≡ true },
@@ -129,7 +130,7 @@ impl Entry for Reading {
         shapes: &[u32; 64],
         cells: &mut RunningCells<'_>,
     ) -> Result<usize, Refusal> {
-        if !(words::is_mpan(mpan) & self.in_range()) {
+        if !reading_in_range(mpan, self) {
             return Err(Refusal::ArgumentOutOfRange);
         }
         if !self.allowed() {

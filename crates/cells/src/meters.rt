@@ -20,7 +20,7 @@ fn used_de_energised(reading: u64) -> bool
 // Where a meter's energy comes from.
 // Kept: `if`, where a match on the status would stand: an allocation of 65,536 meters took 6.21 million instructions with one and 5.88 million so.
 #[tactic(auto, using(crate::proofs::Statuses::by_status), unfolding(crate::specs::Energy::reading_source, crate::specs::Energy::used_de_energised))]
-fn source(registration: u64, reading: u64) -> Source
+pub fn source(registration: u64, reading: u64) -> Source
     ensures { result ≡ source_of registration reading }
 {
     let status = Status::of(registration);

@@ -1,11 +1,12 @@
 -- A list that a loop fills from the front, with what a function gives for each entry of another list, or for each place.
 use Prim.Native.Nat.{ℕ, ◌+◌, ◌≤◌, ◌<◌}
-use mathlib.Core.Path.{◌≡◌, ◌∙◌}
-use mathlib.Core.List.{List, map}
+use mathlib.Core.Path.{◌≡◌, refl, ◌∙◌}
+use mathlib.Core.List.{List, map, map-append}
 use native.Mathlib.Omega.{arith}
+use native.Mathlib.Numerals.{add-one}
 use borrow.Author.Count.{below_more}
 use lib.ListN.{length, get_or, set, take, length-set}
-use lib.Seq.{take_all, get_or-set_same, get_or-set_other}
+use lib.Seq.{take-suc, take-suc-set, take_all, get_or-set_same, get_or-set_other}
 use Rattle.cells.specs.Cells.{count_from}
 use Rattle.cells.proofs.Counting.{counted-list}
 
@@ -13,6 +14,18 @@ use Rattle.cells.proofs.Counting.{counted-list}
 pub record Filled {A B : Type 0} (f : A → B) (xs : List A) (ys : List B) (i : ℕ) : Type 0 where
   pub long : length ys ≡ length xs
   pub done : take i ys ≡ map f (take i xs)
+
+-- none is filled at first, and one more after each turn
+module _ {A B : Type 0} (f : A → B) (xs : List A) (ys : List B) where
+  pub filled_none : length ys ≡ length xs → Filled f xs ys 0
+  filled_none e = record { long = e; done = refl }
+
+  pub filled_next : (i : ℕ) (x : A) → Filled f xs ys i → i < length xs → Filled f xs (set ys i (f (get_or xs i x))) (i + 1)
+  filled_next i x p h =
+      record {
+        long = length-set ys i _ ∙ p.long;
+        done = rw (add-one, take-suc-set ys i _ (omega (arith, p.long)), take-suc xs i x h, map-append, p.done);
+      }
 
 -- all of them are
 pub filled-all : {A B : Type 0} {f : A → B} {xs : List A} {ys : List B} {i : ℕ} → Filled f xs ys i → length xs ≤ i → ys ≡ map f xs

@@ -83,7 +83,7 @@ module _ {lack : ℕ} {fractions : List ℕ} {floors volumes : List ℤ} {left i
       served : test ≡ true
       served = lt-ltb _ lack r
 
-      some_left : 0 < left
+      pub some_left : 0 < left
       some_left = omega (arith, count_next, ap bit served)
 
       pub hand-one : HandedOut lack fractions floors (set volumes i (get_or volumes i (pos 0) +ℤ pos 1)) (left - 1) (i + 1)

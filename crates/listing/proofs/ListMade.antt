@@ -35,7 +35,7 @@ unfolding calls_from
 calls-in-arrays zero ws = refl
 calls-in-arrays (suc n) ws = rw (call-of-first ws, calls-in-arrays n (drop call_words ws))
 
-length-calls : (n : ℕ) (ws : List ℕ) → length (calls_from n ws) ≡ n
+pub length-calls : (n : ℕ) (ws : List ℕ) → length (calls_from n ws) ≡ n
 unfolding calls_from
 length-calls zero ws = refl
 length-calls (suc n) ws = ap suc (length-calls n (drop call_words ws))
@@ -44,7 +44,7 @@ length-calls (suc n) ws = ap suc (length-calls n (drop call_words ws))
 abbrev pub calls_to : ℕ → List (List ℕ) → List Call
 calls_to i calls = map call_of (take i calls)
 
-calls-more : (i : ℕ) (calls : List (List ℕ)) (d : List ℕ) → i < length calls → calls_to (i + 1) calls ≡ calls_to i calls ++ call_of (get_or calls i d) ∷ []
+pub calls-more : (i : ℕ) (calls : List (List ℕ)) (d : List ℕ) → i < length calls → calls_to (i + 1) calls ≡ calls_to i calls ++ call_of (get_or calls i d) ∷ []
 calls-more i calls d h = rw (add-one i, take-suc calls i d h) (map-append call_of (take i calls) (get_or calls i d ∷ []))
 
 -- the first i calls are made: the book, the cells and the numbers then
@@ -111,7 +111,7 @@ module _ (s : Settings) (words : List ℕ) (cells : List ℤ) (ws numbers : List
   abbrev start : Running
   start = running_of s words cells
 
-  list-made : {made : Settings} {rows : List ℕ} {after : List ℤ} {numbers_after : List ℕ} → MakesEach start (first_chunks call_words (length ws / call_words) ws) numbers made rows after numbers_after
+  pub list-made : {made : Settings} {rows : List ℕ} {after : List ℤ} {numbers_after : List ℕ} → MakesEach start (first_chunks call_words (length ws / call_words) ws) numbers made rows after numbers_after
       → ListGives (list_outcome accepted start ws numbers) (record { number = accepted; settings = made }) rows after numbers_after
   unfolding list_outcome
   list-made m =

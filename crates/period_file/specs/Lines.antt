@@ -136,15 +136,29 @@ kind_place kind.Shape = 4
 kind_place kind.Meter = 5
 kind_place kind.Reading = 6
 
+-- the place of the kind of a line; 0 for a line out of form
+abbrev pub kind_of : Option Call → ℕ
+kind_of None = 0
+kind_of (Some call) = kind_place (call_kind call)
+
 -- whether a kind may stand after the last one, if there is one: a later kind, or the same again if it may stand more than once
 abbrev pub kind_follows : Option LineKind → LineKind → Bool
 kind_follows None new = true
 kind_follows (Some last) new =
     ltb (kind_place last) (kind_place new) || (eqb (kind_place last) (kind_place new) && ltb 2 (kind_place new))
 
+-- the same where the last line is told by a number, the place of its kind in the order: 0 before the first line, and a number above 6 lets no
+-- line follow
+abbrev pub place_follows : ℕ → LineKind → Bool
+place_follows last new = ltb last (kind_place new) || (eqb last (kind_place new) && ltb 2 (kind_place new))
+
+-- a line where only some kinds may stand
+unfoldable pub line_allowed : (LineKind → Bool) → List ℕ → Option Call
+line_allowed allowed line = given (line_of line) (λ call. in_form (allowed (call_kind call)) (Some call))
+
 -- a line after lines of which the last had that kind
-unfoldable pub line_after : Option LineKind → List ℕ → Option Call
-line_after last line = given (line_of line) (λ call. in_form (kind_follows last (call_kind call)) (Some call))
+abbrev pub line_after : Option LineKind → List ℕ → Option Call
+line_after last = line_allowed (kind_follows last)
 
 -- "makes the call of each": a line in form gives its kind, and what its call leaves
 pub record CallTaken (r : Running) (made : Option Call) (taken : Taken) (rows_after : List ℕ) (cells_after : List ℤ) : Type 0 where
@@ -159,7 +173,11 @@ pub record NoneTaken (r : Running) (made : Option Call) (rows_after : List ℕ) 
   pub rows : rows_after ≡ r.book.rows
   pub cells : cells_after ≡ r.cells
 
+-- what taking a line gives where only some kinds may stand
+abbrev pub LineTakenWhere : Running → (LineKind → Bool) → List ℕ → Option Taken → List ℕ → List ℤ → Type 0
+LineTakenWhere r allowed line taken rows_after cells_after =
+    MatchOption taken (NoneTaken r (line_allowed allowed line) rows_after cells_after) (λ t. CallTaken r (line_allowed allowed line) t rows_after cells_after)
+
 -- what taking a line gives, after lines of which the last had that kind
 abbrev pub LineTaken : Running → Option LineKind → List ℕ → Option Taken → List ℕ → List ℤ → Type 0
-LineTaken r last line taken rows_after cells_after =
-    MatchOption taken (NoneTaken r (line_after last line) rows_after cells_after) (λ t. CallTaken r (line_after last line) t rows_after cells_after)
+LineTaken r last = LineTakenWhere r (kind_follows last)

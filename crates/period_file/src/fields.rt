@@ -1,10 +1,18 @@
 // The fields of a text, by commas, and the numbers in them.
 ghost use Rattle.std.specs.Prelude.{◌≡◌};
-ghost use Rattle.period_file.specs.Fields.{field_count, field, two_numbers, additional_of};
+ghost use Rattle.period_file.specs.Fields.{starts_with, field_count, field, number_at, two_numbers, additional_of, additional_at};
 
 use crate::numbers::number;
 
 const COMMA: u8 = b',';
+
+// Whether a line starts with these bytes.
+#[tactic(auto, using(crate::proofs::Prefixes::prefix_test))]
+pub fn starts_with(line: &[u8], key: &[u8]) -> bool
+    ensures { result ≡ starts_with key.now line.now }
+{
+    line.strip_prefix(key).is_some()
+}
 
 // How many fields a text has: one more than it has commas.
 pub fn field_count(text: &[u8]) -> usize
@@ -20,15 +28,23 @@ pub(crate) fn field_at(text: &[u8], place: usize) -> &[u8]
     text.split(|byte| *byte == COMMA).nth(place).unwrap_or(&[])
 }
 
+// The number in a field.
+#[tactic(auto, unfolding(crate::specs::Fields::number_at))]
+pub fn number_at(text: &[u8], place: usize) -> Option<u64>
+    ensures { result ≡ number_at place text.now }
+{
+    number(field_at(text, place))
+}
+
 // The numbers of a text of two fields.
-#[tactic(auto, unfolding(crate::specs::Fields::two_numbers, crate::specs::Fields::number_at))]
+#[tactic(auto, unfolding(crate::specs::Fields::two_numbers))]
 pub(crate) fn two_numbers(text: &[u8]) -> Option<(u64, u64)>
     ensures { result ≡ two_numbers text.now }
 {
     if field_count(text) != 2 {
         return None;
     }
-    Some((number(field_at(text, 0))?, number(field_at(text, 1))?))
+    Some((number_at(text, 0)?, number_at(text, 1)?))
 }
 
 // The additional unit in a text: a minus alone is none.
@@ -40,4 +56,12 @@ pub(crate) fn additional(text: &[u8]) -> Option<Option<u64>>
         b"-" => Some(None),
         _ => number(text).map(Some),
     }
+}
+
+// The additional unit in a field.
+#[tactic(auto, unfolding(crate::specs::Fields::additional_at))]
+pub fn additional_at(text: &[u8], place: usize) -> Option<Option<u64>>
+    ensures { result ≡ additional_at place text.now }
+{
+    additional(field_at(text, place))
 }

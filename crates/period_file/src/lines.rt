@@ -1,9 +1,10 @@
 // The six kinds of line, and the order in which they may stand.
-ghost use Rattle.std.specs.Prelude.{◌≡◌};
-ghost use Rattle.period_file.specs.Lines.{registration_at, meter_line, reading_line, keyed_line, setting_kind, call_kind, kind_follows, line_after};
+ghost use Rattle.std.specs.Prelude.{◌≡◌, Bool};
+ghost use Rattle.period_file.specs.declared.LineKind.{LineKind};
+ghost use Rattle.period_file.specs.Lines.{registration_at, meter_line, reading_line, keyed_line, setting_kind, call_kind, kind_place, kind_of, kind_follows, place_follows, line_allowed};
 
 use crate::LineKind;
-use crate::fields::{additional, field_at, field_count, two_numbers};
+use crate::fields::{additional_at, field_count, number_at, two_numbers};
 use crate::numbers::{number, signed};
 use book::Setting;
 use calls::Call;
@@ -13,19 +14,19 @@ use words::{Reading, Registration};
 pub const LINE_MAX: usize = 80;
 
 // The fields of a meter line after its MPAN.
-#[tactic(auto, unfolding(crate::specs::Lines::registration_at, crate::specs::Fields::number_at, crate::specs::Fields::additional_at))]
+#[tactic(auto, unfolding(crate::specs::Lines::registration_at))]
 fn registration_at(value: &[u8]) -> Option<Registration>
     ensures { result ≡ registration_at value.now }
 {
-    let segment = number(field_at(value, 1))?;
-    let direction = number(field_at(value, 2))?;
-    let status = number(field_at(value, 3))?;
-    let base = number(field_at(value, 4))?;
-    let additional = additional(field_at(value, 5))?;
-    let category = number(field_at(value, 6))?;
-    let llf = number(field_at(value, 7))?;
-    let network = number(field_at(value, 8))?;
-    let tariff = number(field_at(value, 9))?;
+    let segment = number_at(value, 1)?;
+    let direction = number_at(value, 2)?;
+    let status = number_at(value, 3)?;
+    let base = number_at(value, 4)?;
+    let additional = additional_at(value, 5)?;
+    let category = number_at(value, 6)?;
+    let llf = number_at(value, 7)?;
+    let network = number_at(value, 8)?;
+    let tariff = number_at(value, 9)?;
     Some(Registration {
         segment,
         direction,
@@ -40,29 +41,29 @@ fn registration_at(value: &[u8]) -> Option<Registration>
     })
 }
 
-#[tactic(auto, unfolding(crate::specs::Lines::meter_line, crate::specs::Fields::number_at))]
+#[tactic(auto, unfolding(crate::specs::Lines::meter_line))]
 fn meter_line(value: &[u8]) -> Option<Call>
     ensures { result ≡ meter_line value.now }
 {
     if field_count(value) != 10 {
         return None;
     }
-    let mpan = number(field_at(value, 0))?;
+    let mpan = number_at(value, 0)?;
     let registration = registration_at(value)?;
     Some(Call::Register { mpan, registration })
 }
 
-#[tactic(auto, unfolding(crate::specs::Lines::reading_line, crate::specs::Fields::number_at))]
+#[tactic(auto, unfolding(crate::specs::Lines::reading_line))]
 fn reading_line(value: &[u8]) -> Option<Call>
     ensures { result ≡ reading_line value.now }
 {
     if field_count(value) != 4 {
         return None;
     }
-    let mpan = number(field_at(value, 0))?;
-    let issue = number(field_at(value, 1))?;
-    let quality = number(field_at(value, 2))?;
-    let consumption = number(field_at(value, 3))?;
+    let mpan = number_at(value, 0)?;
+    let issue = number_at(value, 1)?;
+    let quality = number_at(value, 2)?;
+    let consumption = number_at(value, 3)?;
     let reading = Reading {
         issue,
         quality,
@@ -119,7 +120,28 @@ pub(crate) fn call_kind(call: Call) -> LineKind
     }
 }
 
+// The place of the kind of a line in the order, from 1; 0 for a line out of form, which makes no call.
+pub fn kind_of(line: Option<Call>) -> u64
+    ensures { result ≡ kind_of line }
+{
+    line.map_or(0, |call| call_kind(call).place())
+}
+
 impl LineKind {
+    // The place of this kind in the order, from 1.
+    pub fn place(self) -> u64
+        ensures { result ≡ kind_place self }
+    {
+        match self {
+            LineKind::Take => 1,
+            LineKind::Tolerance => 2,
+            LineKind::Weight => 3,
+            LineKind::Shape => 4,
+            LineKind::Meter => 5,
+            LineKind::Reading => 6,
+        }
+    }
+
     // Whether a line of this kind may stand after the last one, or first: only the kinds after tolerance may stand again.
     fn may_follow(self, last: Option<LineKind>) -> bool
         ensures { result ≡ kind_follows last self }
@@ -131,13 +153,45 @@ impl LineKind {
     }
 }
 
-// The call of the line that these bytes are, after lines of which the last had that kind.
-#[tactic(auto, unfolding(crate::specs::Lines::line_after, crate::specs::Lines::line_of))]
-pub fn read_line(line: &[u8], last: Option<LineKind>) -> Option<Call>
-    ensures { result ≡ line_after last line.now }
+// What is known of the last line: its kind, if there was a line, or a number for it.
+pub trait LastKind: Copy {
+    // Whether a line of a kind may stand after it.
+    ghost lets_follow: { Self → LineKind → Bool };
+
+    fn lets(self, kind: LineKind) -> bool
+        ensures { result ≡ lets_follow self kind };
+}
+
+impl LastKind for Option<LineKind> {
+    ghost lets_follow = { λ last. kind_follows last };
+
+    fn lets(self, kind: LineKind) -> bool {
+        kind.may_follow(self)
+    }
+}
+
+// The place of the last line's kind in the order, 0 before the first line. After any number above 6 no line may stand.
+impl LastKind for u64 {
+    ghost lets_follow = { λ last. place_follows last };
+
+    fn lets(self, kind: LineKind) -> bool {
+        let place = kind.place();
+        self < place || (self == place && LineKind::Tolerance.place() < place)
+    }
+}
+
+// The call of the line that these bytes are, after a last line of which this is known.
+#[tactic(auto, unfolding(crate::specs::Lines::line_allowed, crate::specs::Lines::line_of))]
+pub fn read_line<K: LastKind>(line: &[u8], last: K) -> Option<Call>
+    ensures { result ≡ line_allowed (K.lets_follow last) line.now }
 {
     if LINE_MAX < line.len() {
         return None;
     }
-    keyed_line(line).filter(|call| call_kind(*call).may_follow(last))
+    let call = keyed_line(line)?;
+    if last.lets(call_kind(call)) {
+        Some(call)
+    } else {
+        None
+    }
 }

@@ -2,4 +2,5 @@
 // allocation.
 #![tactic(auto)]
 
+pub mod lent;
 pub mod lines;

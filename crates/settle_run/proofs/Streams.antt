@@ -87,14 +87,14 @@ module _ (w : Work) {then : Step} where
   prints again h e = rw e
   prints failed h e = absurd (h refl)
 
-  goes_on : (a : Attempt) → a ≢ failed → then ≡ take_attempt by_cells w a → is_reading then.work.phase ≡ true → then.work ≡ (take_bytes by_cells w (given_by a)).work
+  pub goes_on : (a : Attempt) → a ≢ failed → then ≡ take_attempt by_cells w a → is_reading then.work.phase ≡ true → then.work ≡ (take_bytes by_cells w (given_by a)).work
   unfolding take_attempt take_read take_bytes
   goes_on (gave []) h e k = let ends = rw e at k in absurd cc
   goes_on (gave (byte ∷ bytes)) h e k = rw e
   goes_on again h e k = rw e
   goes_on failed h e k = absurd (h refl)
 
-  stops : (a : Attempt) → a ≢ failed → then ≡ take_attempt by_cells w a → is_reading w.phase ≡ true → is_reading then.work.phase ≡ false
+  pub stops : (a : Attempt) → a ≢ failed → then ≡ take_attempt by_cells w a → is_reading w.phase ≡ true → is_reading then.work.phase ≡ false
       → then.work ≡ ended (take_bytes by_cells w (given_by a)).work
   unfolding take_attempt take_read take_bytes
   stops (gave []) h e r k = rw (e, r)
@@ -102,7 +102,7 @@ module _ (w : Work) {then : Step} where
   stops again h e r k = absurd cc
   stops failed h e r k = absurd (h refl)
 
-  stops-at-end : (a : Attempt) → a ≢ failed → then ≡ take_attempt by_cells w a → is_reading w.phase ≡ true → is_reading then.work.phase ≡ false
+  pub stops-at-end : (a : Attempt) → a ≢ failed → then ≡ take_attempt by_cells w a → is_reading w.phase ≡ true → is_reading then.work.phase ≡ false
       → is_reading (take_bytes by_cells w (given_by a)).work.phase ≡ true → a ≡ gave []
   unfolding take_attempt take_read take_bytes
   stops-at-end (gave []) h e r k z = refl
@@ -146,6 +146,9 @@ some_more a b c whole rest p s =
       front = rw (s.front, append_assoc);
       appended = Appends-trans a b c whole s.part p s.appended;
     }
+
+pub some_of : (a b : Option (List ℕ)) (whole rest : List ℕ) → Appends a b whole → AppendsSome a b (whole ++ rest)
+some_of a b whole rest p = record { part = whole; rest = rest; front = refl; appended = p }
 
 pub some-before : (a b : Option (List ℕ)) (text more : List ℕ) → AppendsSome a b text → AppendsSome a b (text ++ more)
 some-before a b text more s =

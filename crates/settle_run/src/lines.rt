@@ -191,10 +191,28 @@ impl Progress {
     #[tactic(auto, unfolding(crate::specs::Program::end_text))]
     pub fn finish(&mut self)
         requires { length self.old.text + 2098 ≤ OUT_BYTES }
-        ensures { self.new.text ≡ self.old.text ++ end_text by_cells self.old.work }
+        ensures text { self.new.text ≡ self.old.text ++ end_text by_cells self.old.work }
+        ensures short { length self.new.text ≤ length self.old.text + 2098 }
     {
         self.end_input();
         self.print_allocation();
+    }
+
+    // Writes the text that waits. It waits until `clear_written`, so that a caller whose next step fails has what it had.
+    pub fn write_waiting<W: Write>(&self, clock: &impl Clock, writer: &mut W) -> io::Result<()>
+        ensures ok { OnOk result (Appends (W.contents writer.old) (W.contents writer.new) self.now.text) }
+        ensures lasting { IfErr result (λ e. ¬ Passes e) }
+        ensures err { OnErr result (AppendsSome (W.contents writer.old) (W.contents writer.new) self.now.text) }
+    {
+        write_out(clock, writer, self.waiting.as_slice())?;
+        pass_on(clock, writer)
+    }
+
+    // The text that waited was written, and none waits.
+    pub fn clear_written(&mut self)
+        ensures { self.new ≡ quiet self.old.work }
+    {
+        self.waiting.clear();
     }
 
     // Writes the text that waits, after which none does. Where it fails, the text still waits.
@@ -205,9 +223,8 @@ impl Progress {
         ensures err { OnErr result (AppendsSome (W.contents writer.old) (W.contents writer.new) self.old.text) }
         ensures waiting { OnErr result (self.new ≡ self.old) }
     {
-        write_out(clock, writer, self.waiting.as_slice())?;
-        pass_on(clock, writer)?;
-        self.waiting.clear();
+        self.write_waiting(clock, writer)?;
+        self.clear_written();
         Ok(())
     }
 }

@@ -8,6 +8,7 @@ use borrow.Rule.Slice.PartMut.{mid_of}
 use lib.IntN.{ℤ}
 use lib.ListN.{length, drop}
 use Rattle.std.specs.Prelude.{Result, Ok, Err}
+use Rattle.std.specs.Result.{is_ok}
 use Rattle.words.proofs.Tests.{by-test}
 use Rattle.refusals.specs.declared.Refusal.{Refusal}
 use Rattle.refusals.specs.Refusal.{number_given}
@@ -22,9 +23,10 @@ use Rattle.book.proofs.Written.{length-written, rows-of-written}
 use Rattle.calls.specs.Stores.{kept_storing, Stores}
 use Rattle.calls.specs.Helpers.{meters_after}
 use Rattle.two_parts.specs.TwoParts.{later_rows, RowsApart, PartsReady}
+use Rattle.two_parts.specs.Apart.{counted, LeavesApart}
 use Rattle.two_parts.proofs.KeptByParts.{KeptInLater}
 use Rattle.two_parts.proofs.LentPart.{part_after, put_after, part_length, part-capacity, part-rows, put-length, put_first, put-later, put-tail}
-use Rattle.two_parts.proofs.StoredApart.{tail_written, whole, counted, LeavesApart, leaves-apart}
+use Rattle.two_parts.proofs.StoredApart.{tail_written, whole, leaves-apart}
 
 pub later-count : (first later : ℕ) (words : List ℕ) → length (later_rows first later words) ≡ later
 unfolding later_rows
@@ -33,6 +35,10 @@ later-count first later words = length-rows later (drop (3 * first) words)
 -- a meter whose row a search did not find is not known
 pub not-found : (m : ℕ) (rows : List Row) {place : Result ℕ ℕ} → place ≡ place_in m rows → ((k : ℕ) → place ≡ Ok k → ⊥) → is_known m rows ≡ false
 not-found m rows e n = by-test (is_known m rows) (λ k. absurd (n (place_of m rows) (e ∙ rw k))) (λ k. k)
+
+-- a search finds a row exactly where the meter is known
+pub found-known : (m : ℕ) (rows : List Row) {place : Result ℕ ℕ} → place ≡ place_in m rows → is_ok place ≡ is_known m rows
+found-known m rows e = by-test (is_known m rows) (λ k. rw (e, k)) (λ k. rw (e, k))
 
 module _ (first later : ℕ) (words : List ℕ) (ready : PartsReady first later words) where
   pub first-within : first ≤ capacity words

@@ -20,7 +20,7 @@ use Rattle.running.specs.Helpers.{rows_change}
 use Rattle.calls.specs.Stores.{storing_kept, kept_storing, Stores}
 use Rattle.calls.specs.Helpers.{meters_after}
 use Rattle.two_parts.specs.declared.Parts.{Parts}
-use Rattle.two_parts.specs.Apart.{meters_of, StoresApart}
+use Rattle.two_parts.specs.Apart.{counted, LeavesApart, meters_of, StoresApart}
 
 module _ (m : ℕ) (r : Reading) where
   as-many-rows : (rows : List Row) → length (reading_storing m r rows).rows ≡ length rows
@@ -44,6 +44,9 @@ module _ (m : ℕ) (r : Reading) where
   as-many : {shapes : List ℕ} {n : ℕ} {words words' : List ℕ} {cells cells' : List ℤ} (outcome : Result ℕ Refusal) → Stores (reading_storing m r) shapes n words cells outcome words' cells' → meters_after n outcome ≡ n
   as-many {shapes} {n} {words} {cells = cells} (Ok count) x = x.counted ∙ as-many-kept shapes cells (rows_of n words) ∙ length-rows n words
   as-many (Err refusal) x = refl
+
+  pub later-kept : {shapes : List ℕ} {first later later_after : ℕ} {words words' : List ℕ} {cells cells' : List ℤ} {outcome : Result ℕ Refusal} → LeavesApart (reading_storing m r) shapes first later words cells later_after outcome words' cells' → later_after ≡ later
+  later-kept {outcome = outcome} x = omega (arith, x.meters, as-many (counted _ outcome) x.stores)
 
   pub first-kept : {shapes : List ℕ} {before after : Parts} {cells cells' : List ℤ} {outcome : Result ℕ Refusal} → StoresApart (reading_storing m r) shapes before cells after outcome cells'
       → (after.first ≡ before.first) ⊎ ((after.later ≡ 0) × (meters_of before < meters_of after)) → after.first ≡ before.first

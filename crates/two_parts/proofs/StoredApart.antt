@@ -18,6 +18,7 @@ use Rattle.book.proofs.Written.{length-written, rows-of-written}
 use Rattle.calls.specs.Stores.{StoringKept, kept_storing, Stores}
 use Rattle.calls.specs.Helpers.{meters_after}
 use Rattle.two_parts.specs.TwoParts.{merged, later_rows, as_one, RowsApart, PartsReady}
+use Rattle.two_parts.specs.Apart.{counted, LeavesApart}
 use Rattle.two_parts.proofs.AsOne.{as-one-count, as-one-rows}
 use Rattle.two_parts.proofs.KeptByParts.{KeptInFirst}
 
@@ -41,17 +42,6 @@ by-tail rows xs ys e = ap (λ (l : List ℕ). words_of rows ++ l) e
 -- the rows that the parts stand for
 abbrev pub whole : ℕ → ℕ → List ℕ → List Row
 whole first later words = merged (rows_of first words) (later_rows first later words)
-
--- an outcome with the number of meters of both parts
-abbrev pub counted : ℕ → Result ℕ Refusal → Result ℕ Refusal
-counted meters (Ok n) = Ok meters
-counted meters (Err refusal) = Err refusal
-
--- what storing in one of two parts leaves: two parts again, and merged they are what it leaves in the rows that they stand for
-pub record LeavesApart (store : List Row → Storing) (shapes : List ℕ) (first later : ℕ) (words : List ℕ) (cells : List ℤ) (later' : ℕ) (outcome : Result ℕ Refusal) (words' : List ℕ) (cells' : List ℤ) : Type 0 where
-  pub ready : PartsReady first later' words'
-  pub stores : Stores store shapes (first + later) (as_one first later words) cells (counted (first + later') outcome) (as_one first later' words') cells'
-  pub meters : first + later' ≡ meters_after (first + later) (counted (first + later') outcome)
 
 -- other words, with as many rows or more in the later part
 module _ (first later : ℕ) (words : List ℕ) (ready : PartsReady first later words) (store : List Row → Storing) (shapes : List ℕ) (cells : List ℤ) (later' : ℕ) (words' : List ℕ) (more : later ≤ later')

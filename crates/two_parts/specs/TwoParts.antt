@@ -1,6 +1,6 @@
 -- Rows in two parts that each rise. While a list of calls is made, the rows of new meters are gathered behind the rows that were
 -- there, and the two parts are merged from time to time: a new row then moves few others, in whatever order meters arrive.
-use Rattle.std.specs.Prelude.{ℕ, ◌+◌, ◌*◌, ◌≤◌, ◌≡◌, true, false, cond, List, [], ◌∷◌, ltb, drop}
+use Rattle.std.specs.Prelude.{ℕ, ◌+◌, ◌-◌, ◌*◌, ◌≤◌, ◌<◌, ◌≡◌, true, false, cond, List, [], ◌∷◌, ltb, drop}
 use Rattle.book.specs.Rows.{Row, capacity, rows_of, rows_formed, is_known, written}
 
 -- a row put in its place among rows
@@ -35,3 +35,10 @@ pub record RowsApart (first later : List Row) : Type 0 where
 pub record PartsReady (first later : ℕ) (words : List ℕ) : Type 0 where
   pub within-capacity : first + later ≤ capacity words
   pub rows : RowsApart (rows_of first words) (later_rows first later words)
+
+-- what making room in the second part leaves, for rows that are `meters` in both: the same rows merged, and a second part that has room for one more
+pub record HasRoom (first meters : ℕ) (words : List ℕ) (first_after : ℕ) (words_after : List ℕ) : Type 0 where
+  pub within : first_after ≤ meters
+  pub ready : PartsReady first_after (meters - first_after) words_after
+  pub same : as_one first_after (meters - first_after) words_after ≡ as_one first (meters - first) words
+  pub room : meters - first_after < later_most

@@ -1,10 +1,13 @@
 // Rows in two rising parts, as a list of calls keeps them while it is made.
 #![tactic(auto)]
 
-ghost use Rattle.std.specs.Prelude.{◌≡◌, ◌<◌};
+ghost use Rattle.std.specs.Prelude.{◌≡◌, ◌+◌, ◌≤◌, ◌<◌};
 ghost use Rattle.book.specs.Helpers.{RowsReady};
-ghost use Rattle.two_parts.specs.TwoParts.{later_most, PartsReady};
+ghost use Rattle.two_parts.specs.TwoParts.{as_one, later_most, PartsReady};
 
+use crate::merge::with_room;
+
+pub mod apart;
 pub mod merge;
 pub mod rows;
 pub mod store;
@@ -13,14 +16,16 @@ pub mod store;
 pub const LATER_MAX: usize = 512;
 
 // Rows that are lent in two parts, one behind the other: `first` rows and then `later` rows. Both rise, and no meter stands in both.
-// Row `near` of the first part is the one to try first for the next call. Lists are often in order of MPAN, so that is the row after
-// the one found last. It spares a search and changes no answer: any row is right.
+// Row `near` of the first part is the one to try first for the next reading, and row `near_registered` for the next registration. Lists are
+// often in order of MPAN, so that is the row after the one that a call of the kind found last. It spares a search and changes no answer: any
+// row is right.
 #[derive(Drop)]
 pub struct Parts<'a> {
     rows: &'a mut [u64],
     pub first: usize,
     pub later: usize,
     near: usize,
+    near_registered: usize,
     pub ghost ready: { PartsReady first later rows.now },
     pub ghost short: { later < later_most },
 }
@@ -41,6 +46,27 @@ impl<'a> Parts<'a> {
             first: meters,
             later: 0,
             near: 0,
+            near_registered: 0,
+        }
+    }
+
+    // Rows that stand in two parts. Where the second has its most rows, they are merged.
+    #[tactic(auto, using(crate::proofs::AsOne::ends))]
+    pub fn in_two(rows: &'a mut [u64], first: usize, later: usize) -> Parts<'a>
+        requires parts { PartsReady first later rows.old }
+        requires short { later ≤ later_most }
+        ensures same_slice { result.rows.ghost_name ≡ rows.entry.ghost_name }
+        ensures same_rows { as_one result.first result.later result.rows.now ≡ as_one first later rows.old }
+        ensures meters { result.first + result.later ≡ first + later }
+    {
+        let meters = first + later;
+        let first = with_room(rows, first, meters);
+        Parts {
+            rows,
+            first,
+            later: meters - first,
+            near: 0,
+            near_registered: 0,
         }
     }
 }

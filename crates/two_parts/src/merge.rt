@@ -5,7 +5,7 @@
 // 33.4 ms, and 27.1 ms so.
 ghost use Rattle.std.specs.Prelude.{◌≡◌, ◌+◌, ◌*◌, ◌-◌, ◌≤◌, ◌<◌, length};
 ghost use Rattle.book.specs.Rows.{first_row, rows_of};
-ghost use Rattle.two_parts.specs.TwoParts.{later_rows, as_one, later_most, PartsReady};
+ghost use Rattle.two_parts.specs.TwoParts.{later_rows, as_one, later_most, PartsReady, HasRoom};
 ghost use Rattle.two_parts.specs.Merge.{row_of, row_put, last_is_first, LastPlaced};
 
 use crate::{LATER_MAX, Parts};
@@ -92,6 +92,34 @@ pub(crate) fn merge_rows(rows: &mut [u64], first: usize, later: usize)
     merge_held(rows, first, held, later);
 }
 
+// Merges the two parts of rows that are lent: they rise as one part then. Where the second part has none, they do already.
+#[tactic(auto, using(crate::proofs::AsOne::ends, crate::proofs::AsOne::merging))]
+pub fn merge_parts(rows: &mut [u64], first: usize, later: usize)
+    requires ready { PartsReady first later rows.old }
+    requires short { later ≤ later_most }
+    ensures { rows.new ≡ as_one first later rows.old }
+{
+    if later == 0 {
+        return;
+    }
+    merge_rows(rows, first, later);
+}
+
+// Merges the parts, of `meters` rows in all, where the second has no room for one more. Returns the rows of the first part then.
+#[tactic(auto, using(crate::proofs::AsOne::merging))]
+pub fn with_room(rows: &mut [u64], first: usize, meters: usize) -> usize
+    requires within { first ≤ meters }
+    requires short { meters - first ≤ later_most }
+    requires ready { PartsReady first (meters - first) rows.old }
+    ensures { HasRoom first meters rows.old result rows.new }
+{
+    if meters - first < LATER_MAX {
+        return first;
+    }
+    merge_parts(rows, first, meters - first);
+    meters
+}
+
 impl Parts<'_> {
     // Merges the two parts: all rows are the first's then, and rise as one part. Where the second part has none, they do already.
     #[tactic(auto, using(crate::proofs::AsOne::ends, crate::proofs::AsOne::merging))]
@@ -101,10 +129,7 @@ impl Parts<'_> {
         ensures first { self.new.first ≡ self.old.first + self.old.later }
         ensures later { self.new.later ≡ 0 }
     {
-        if self.later == 0 {
-            return;
-        }
-        merge_rows(self.rows, self.first, self.later);
+        merge_parts(self.rows, self.first, self.later);
         self.first += self.later;
         self.later = 0;
     }

@@ -5,13 +5,13 @@ ghost use Rattle.book.specs.Helpers.{place_in, registration_storing, reading_sto
 ghost use Rattle.running.specs.Lent.{lent_slice, lent_cells};
 ghost use Rattle.running.specs.Helpers.{ShapesFormed};
 ghost use Rattle.calls.specs.Helpers.{InAnyOrder};
-ghost use Rattle.two_parts.specs.TwoParts.{later_rows};
 ghost use Rattle.two_parts.specs.Apart.{rows_together, meters_of, StoresApart};
 ghost use Rattle.two_parts.specs.ByParts.{GoesByParts};
 
+use crate::apart::store_apart;
 use crate::merge::merge_rows;
 use crate::{LATER_MAX, Parts};
-use book::rows::{find, find_near, first_rows, row_capacity};
+use book::rows::{find_near, first_rows};
 use calls::store::{Entry, RegistrationWord, registration_asked};
 use refusals::Refusal;
 use running::RunningCells;
@@ -34,26 +34,8 @@ impl Parts<'_> {
         find_near(self.rows, self.first, mpan, self.near)
     }
 
-    // Where a meter's row stands or is to stand among those of the second part.
-    #[tactic(auto, using(crate::proofs::AsOne::ends, crate::proofs::LentPart::rest), unfolding(crate::specs::TwoParts::later_rows))]
-    fn find_later(&self, mpan: u64) -> Result<usize, usize>
-        ensures { result ≡ place_in mpan (later_rows self.now.first self.now.later self.now.rows.now) }
-    {
-        let start = 3 * self.first;
-        find(&self.rows[start..], self.later, mpan)
-    }
-
-    // How many rows the slice has room for.
-    fn capacity(&self) -> usize
-        ensures { result ≡ capacity self.now.rows.now }
-    {
-        row_capacity(self.rows)
-    }
-
-    // Stores what is to stand under an MPAN, and gives the number of meters then. A meter of the first part keeps its place, and any other is
-    // the second part's. That part is lent up to the book's capacity, so it is full exactly when the book is. Where it has its most rows, the
-    // parts are merged. Nothing is said of the row to try first the next time, since any is right. That storing goes by parts is asked here
-    // and is no law of `Entry`: of a word it holds only under an MPAN that was tested with it.
+    // Stores what is to stand under an MPAN, and gives the number of meters then. Where the second part has its most rows, the parts are merged.
+    // Nothing is said of the row to try first the next time, since any is right. That storing goes by parts is asked as in `store_apart`.
     #[tactic(auto, using(crate::proofs::AsOne::ends, crate::proofs::LaterStored::lent))]
     fn store<E: Entry>(
         &mut self,
@@ -72,17 +54,14 @@ impl Parts<'_> {
         let place = self.find_first(mpan);
         if let Ok(index) = place {
             self.near = index + 1;
-            let meters = self.meters();
-            entry.store(first, place, self.rows, mpan, shapes, cells)?;
+        }
+        let rows = &mut *self.rows;
+        let later = store_apart(first, self.later, place, rows, mpan, entry, shapes, cells)?;
+        let meters = first + later;
+        // Kept: a call that adds no row ends here. Without this test each reading of a list took six instructions more.
+        if later == self.later {
             return Ok(meters);
         }
-        let place = self.find_later(mpan);
-        let start = 3 * first;
-        let end = 3 * self.capacity();
-        let rows = &mut *self.rows;
-        let part = &mut rows[start..end];
-        let later = entry.store(self.later, place, part, mpan, shapes, cells)?;
-        let meters = first + later;
         if later < LATER_MAX {
             self.later = later;
             return Ok(meters);
@@ -94,7 +73,8 @@ impl Parts<'_> {
         Ok(meters)
     }
 
-    // Stores or replaces a meter's registration.
+    // Stores or replaces a meter's registration. The row that a registration tries first is one of its own: were it that of the readings, each
+    // reading of a list in order that follows the registration of another meter would search all rows.
     // Kept: this and `record` are a line or two over `store`, as those of rows in order are over theirs, and promise `border` besides.
     pub fn register(
         &mut self,
@@ -104,12 +84,17 @@ impl Parts<'_> {
         cells: &mut RunningCells<'_>,
     ) -> Result<usize, Refusal>
         requires { ShapesFormed shapes.now }
-        ensures border { (self.new.first ≡ self.old.first) ⊎ (self.new.later ≡ 0) }
+        ensures border { (self.new.first ≡ self.old.first) ⊎ ((self.new.later ≡ 0) × (meters_of self.old < meters_of self.new)) }
         ensures same_slice { lent_slice cells.new ≡ lent_slice cells.old }
         ensures stored { StoresApart (registration_storing (capacity self.old.rows.now) mpan registration) shapes.now self.old (lent_cells cells.old) self.new result (lent_cells cells.new) }
     {
         let word = registration_asked(mpan, registration)?;
-        self.store(mpan, RegistrationWord { word }, shapes, cells)
+        let for_a_reading = self.near;
+        self.near = self.near_registered;
+        let stored = self.store(mpan, RegistrationWord { word }, shapes, cells);
+        self.near_registered = self.near;
+        self.near = for_a_reading;
+        stored
     }
 
     // Stores a meter's reading if its issue is above the one held.

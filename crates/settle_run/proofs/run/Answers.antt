@@ -11,9 +11,9 @@ returns-in_err-read_all-clause-err g c =
 pub returns-clause-ok : goal.returns-clause-ok
 returns-clause-ok g c =
     let streams = rw c.fresh-progress.ensures at c.in_ok-read_all.ensures.streams in
-    on_ok_weaker c.flush.result (settled (replicate 1536 0) (replicate 836 (pos 0)) _ streams c.finish.ensures) c.flush.ensures.ok
+    on_ok_weaker c.flush.result (settled (replicate 1536 0) (replicate 836 (pos 0)) _ streams c.finish.ensures.text) c.flush.ensures.ok
 
 pub returns-clause-err : goal.returns-clause-err
 returns-clause-err g c =
     let streams = rw c.fresh-progress.ensures at c.in_ok-read_all.ensures.streams in
-    on_err_weaker c.flush.result (broken_at_last (replicate 1536 0) (replicate 836 (pos 0)) _ streams c.finish.ensures) c.flush.ensures.err
+    on_err_weaker c.flush.result (broken_at_last (replicate 1536 0) (replicate 836 (pos 0)) _ streams c.finish.ensures.text) c.flush.ensures.err

@@ -14,8 +14,8 @@ returns-in_err-word-clause-stored c =
 pub invariant_of-store : goal.invariant_of-store
 invariant_of-store c = record { formed = asked-word _ _ c.in_ok-word.ensures }
 
-pub store-requires-clause-by_parts : goal.store-requires-clause-by_parts
-store-requires-clause-by_parts c = word-by-parts c.args.mpan c.args.registration (sym c.in_ok-word.ensures)
+pub store-stored-requires-clause-by_parts : goal.store-stored-requires-clause-by_parts
+store-stored-requires-clause-by_parts c = word-by-parts c.args.mpan c.args.registration (sym c.in_ok-word.ensures)
 
 pub returns-clause-stored : goal.returns-clause-stored
-returns-clause-stored c = asked-apart _ _ _ c.in_ok-word.ensures c.store.ensures.stored
+returns-clause-stored c = record { leaves = (asked-apart _ _ _ c.in_ok-word.ensures c.store-stored.ensures.stored).leaves }
