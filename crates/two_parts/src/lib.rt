@@ -16,16 +16,16 @@ pub mod store;
 pub const LATER_MAX: usize = 512;
 
 // Rows that are lent in two parts, one behind the other: `first` rows and then `later` rows. Both rise, and no meter stands in both.
-// Row `near` of the first part is the one to try first for the next reading, and row `near_registered` for the next registration. Lists are
-// often in order of MPAN, so that is the row after the one that a call of the kind found last. It spares a search and changes no answer: any
-// row is right.
+// Row `near` of the first part is the one to try first for the next reading, and row `near_other` for the next registration; then each
+// tries the other's. Lists are often in order of MPAN, so that is the row after the one that a call of the kind found last. It spares a
+// search and changes no answer: any row is right.
 #[derive(Drop)]
 pub struct Parts<'a> {
     rows: &'a mut [u64],
     pub first: usize,
     pub later: usize,
     near: usize,
-    near_registered: usize,
+    near_other: usize,
     pub ghost ready: { PartsReady first later rows.now },
     pub ghost short: { later < later_most },
 }
@@ -46,7 +46,7 @@ impl<'a> Parts<'a> {
             first: meters,
             later: 0,
             near: 0,
-            near_registered: 0,
+            near_other: 0,
         }
     }
 
@@ -66,7 +66,7 @@ impl<'a> Parts<'a> {
             first,
             later: meters - first,
             near: 0,
-            near_registered: 0,
+            near_other: 0,
         }
     }
 }

@@ -26,12 +26,23 @@ impl Parts<'_> {
         self.first + self.later
     }
 
+    // The row to try before a search: the other kind's, if it is the meter's, and else this kind's. Nothing is said of it, since any is right.
+    #[tactic(auto, using(crate::proofs::AsOne::ends))]
+    fn row_to_try(&self, mpan: u64) -> usize {
+        let other = self.near_other;
+        if other < self.first && self.rows[3 * other] == mpan {
+            other
+        } else {
+            self.near
+        }
+    }
+
     // Where a meter's row stands or is to stand among those of the first part.
     #[tactic(auto, using(crate::proofs::AsOne::ends))]
     fn find_first(&self, mpan: u64) -> Result<usize, usize>
         ensures { result ≡ place_in mpan (rows_of self.now.first self.now.rows.now) }
     {
-        find_near(self.rows, self.first, mpan, self.near)
+        find_near(self.rows, self.first, mpan, self.row_to_try(mpan))
     }
 
     // Stores what is to stand under an MPAN, and gives the number of meters then. Where the second part has its most rows, the parts are merged.
@@ -73,8 +84,8 @@ impl Parts<'_> {
         Ok(meters)
     }
 
-    // Stores or replaces a meter's registration. The row that a registration tries first is one of its own: were it that of the readings, each
-    // reading of a list in order that follows the registration of another meter would search all rows.
+    // Stores or replaces a meter's registration. The row that a registration tries first is one of its own, which stands in `near` meanwhile: were
+    // it that of the readings, each reading of a list in order that follows the registration of another meter would search all rows.
     // Kept: this and `record` are a line or two over `store`, as those of rows in order are over theirs, and promise `border` besides.
     pub fn register(
         &mut self,
@@ -90,10 +101,12 @@ impl Parts<'_> {
     {
         let word = registration_asked(mpan, registration)?;
         let for_a_reading = self.near;
-        self.near = self.near_registered;
+        self.near = self.near_other;
+        self.near_other = for_a_reading;
         let stored = self.store(mpan, RegistrationWord { word }, shapes, cells);
-        self.near_registered = self.near;
-        self.near = for_a_reading;
+        let for_a_registration = self.near;
+        self.near = self.near_other;
+        self.near_other = for_a_registration;
         stored
     }
 
