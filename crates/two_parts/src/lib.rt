@@ -16,9 +16,9 @@ pub mod store;
 pub const LATER_MAX: usize = 512;
 
 // Rows that are lent in two parts, one behind the other: `first` rows and then `later` rows. Both rise, and no meter stands in both.
-// Row `near` of the first part is the one to try first for the next reading, and row `near_other` for the next registration; then each
-// tries the other's. Lists are often in order of MPAN, so that is the row after the one that a call of the kind found last. It spares a
-// search and changes no answer: any row is right.
+// Row `near` of the first part is a reading's own to try before a search, and row `near_other` a registration's; each tries the other's too.
+// Lists are often in order of MPAN, so each is the row after the one that a call of its kind found last. It spares a search and changes no
+// answer: any row is right.
 #[derive(Drop)]
 pub struct Parts<'a> {
     rows: &'a mut [u64],

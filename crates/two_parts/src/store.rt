@@ -84,8 +84,8 @@ impl Parts<'_> {
         Ok(meters)
     }
 
-    // Stores or replaces a meter's registration. The row that a registration tries first is one of its own, which stands in `near` meanwhile: were
-    // it that of the readings, each reading of a list in order that follows the registration of another meter would search all rows.
+    // Stores or replaces a meter's registration. A registration has a row of its own to try, which stands in `near` meanwhile: were it that of the
+    // readings, each reading of a list in order that follows the registration of another meter would search all rows.
     // Kept: this and `record` are a line or two over `store`, as those of rows in order are over theirs, and promise `border` besides.
     pub fn register(
         &mut self,
