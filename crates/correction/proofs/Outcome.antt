@@ -1,15 +1,17 @@
--- What a correction gives: its ways, one for a refusal and one for acceptance, and that the volumes of an accepted one add up to the Take and are less than 1 Wh from the exact shares.
+-- What a correction gives: its ways, one for any refusal, one for each cause and one for acceptance, and that the volumes of an accepted one add up to the Take and are less than 1 Wh from the exact shares.
 use Prim.Native.Nat.{ℕ, zero, suc, ◌<◌}
 use mathlib.Core.Path.{◌≡◌, refl, sym, ap, ◌∙◌}
+use mathlib.Core.Bool.{true, false}
 use mathlib.Core.List.{List}
 use native.Mathlib.Omega.{arith}
 use lib.IntN.{ℤ, pos, nat_abs, ◌-ℤ◌, ◌*ℤ◌}
 use lib.ListN.{length, get_or, take, drop, get_or-append}
 use lib.Seq.{take_at}
-use lib.Signed.{◌<ℤ◌}
+use lib.Signed.{◌<ℤ◌, lt_z}
 use Rattle.std.proofs.Common.{Ok, Err}
 use Rattle.refusals.specs.Causes.{accepted}
 use Rattle.refusals.specs.declared.Refusal.{Refusal}
+use Rattle.refusals.specs.declared.Refusal.TheVariants.{WeightedBelowOne, ToleranceExceeded}
 use Rattle.refusals.specs.Refusal.{number_of}
 use Rattle.refusals.proofs.Passed.{passed}
 use Rattle.refusals.proofs.Numbers.{not-accepted}
@@ -19,7 +21,7 @@ use Rattle.integers.proofs.Order.{lt-false}
 use Rattle.cells.specs.Cells.{units}
 use Rattle.correction.specs.declared.UnitSums.{UnitSums}
 use Rattle.correction.specs.declared.Corrected.{Corrected}
-use Rattle.correction.specs.Correction.{weighted_total, sums_cause}
+use Rattle.correction.specs.Correction.{unallocated_of, weighted_total, exceeds_tolerance, sums_cause}
 use Rattle.correction.specs.Volumes.{volumes_of, with_volumes}
 use Rattle.correction.specs.Outcome.{corrected_of, written_by, volumes_written, CorrectionGives}
 use Rattle.correction.proofs.Apportioned.{numerators_of}
@@ -41,6 +43,15 @@ module _ (take_wh : ℤ) (tolerance : ℕ) (sums : List UnitSums) where
     pub way-refused : (r : Refusal) → number_of r ≡ sums_cause take_wh tolerance sums → CorrectionGives take_wh tolerance sums slice (Err r) slice
     unfolding volumes_written
     way-refused r e = record { number = e; figures = tt; volumes = written-refused _ (λ z. not-accepted r (e ∙ z)) }
+
+    pub way-below : lt_z (weighted_total sums) (pos 1) ≡ true → CorrectionGives take_wh tolerance sums slice (Err WeightedBelowOne) slice
+    unfolding sums_cause
+    way-below h = way-refused WeightedBelowOne (rw h)
+
+    pub way-exceeds : lt_z (weighted_total sums) (pos 1) ≡ false → exceeds_tolerance tolerance (unallocated_of take_wh sums) (weighted_total sums) ≡ true
+        → CorrectionGives take_wh tolerance sums slice (Err ToleranceExceeded) slice
+    unfolding sums_cause
+    way-exceeds above h = way-refused ToleranceExceeded (rw (above, h))
 
     pub way-accepted : {x : Corrected} {after : List ℤ} → sums_cause take_wh tolerance sums ≡ accepted
         → x ≡ corrected_of take_wh sums → after ≡ with_volumes (volumes_of take_wh sums) slice → CorrectionGives take_wh tolerance sums slice (Ok x) after
