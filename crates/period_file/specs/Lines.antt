@@ -141,16 +141,15 @@ abbrev pub kind_of : Option Call → ℕ
 kind_of None = 0
 kind_of (Some call) = kind_place (call_kind call)
 
--- whether a kind may stand after the last one, if there is one: a later kind, or the same again if it may stand more than once
-abbrev pub kind_follows : Option LineKind → LineKind → Bool
-kind_follows None new = true
-kind_follows (Some last) new =
-    ltb (kind_place last) (kind_place new) || (eqb (kind_place last) (kind_place new) && ltb 2 (kind_place new))
-
--- the same where the last line is told by a number, the place of its kind in the order: 0 before the first line, and a number above 6 lets no
--- line follow
+-- whether a kind may stand after a last one whose place in the order is this number: a later kind, or the same again if it may stand more than
+-- once. Before the first line the number is 0, and one above 6 lets no line follow.
 abbrev pub place_follows : ℕ → LineKind → Bool
 place_follows last new = ltb last (kind_place new) || (eqb last (kind_place new) && ltb 2 (kind_place new))
+
+-- whether a kind may stand after the last one, if there is one
+abbrev pub kind_follows : Option LineKind → LineKind → Bool
+kind_follows None new = true
+kind_follows (Some last) new = place_follows (kind_place last) new
 
 -- a line where only some kinds may stand
 unfoldable pub line_allowed : (LineKind → Bool) → List ℕ → Option Call
